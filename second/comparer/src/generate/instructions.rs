@@ -1,0 +1,329 @@
+//! What a step is to do, and operands under which it is likely to be accepted.
+
+use emulator::registers::*;
+
+use super::scene::Scene;
+use crate::names::{code_of, OPERATIONS};
+use crate::random::Random;
+
+const STL: u32 = 13;
+const LDC: u32 = 4;
+const J: u32 = 0;
+
+pub fn prepare_step(random: &mut Random, scene: &mut Scene) {
+    match random.below(100) {
+        0..=9 => channel_request(random, scene),
+        10..=16 => timer_request(random, scene),
+        17..=40 => function(random, scene),
+        41 => unlisted(random, scene),
+        _ => {
+            let (code, name) = random.pick(&OPERATIONS);
+            if random.percent(80) {
+                operands(random, scene, name);
+            }
+            place(random, scene, 15, code);
+        }
+    }
+}
+
+fn channel_request(random: &mut Random, scene: &mut Scene) {
+    scene.regs[OREG] = 0;
+    for _ in 0..random.between(1, 3) {
+        let channel = random.below(LINK_CHANS as u32) as usize;
+        let request = random.pick(&[RUN_REQUEST, READY_REQUEST, RUN_REQUEST | READY_REQUEST]);
+        scene.regs[flags_of(channel)] |= request;
+        if random.percent(60) {
+            let waiting = scene.descriptor(random);
+            scene.put(PORT_BASE, channel as u32, waiting);
+            let state = random.pick(&[ENABLING, WAITING, WAITING, READY]);
+            scene.put(waiting & !1, STATE_S, state);
+        }
+    }
+}
+
+fn timer_request(random: &mut Random, scene: &mut Scene) {
+    scene.regs[OREG] = 0;
+    quiet_channels(scene);
+    let queue = random.below(2) as usize;
+    let clock = scene.regs[CLOCK[queue]];
+    scene.regs[FLAGS] |= TENABLED[queue];
+    if random.percent(30) {
+        scene.regs[FLAGS] |= TENABLED[1 - queue];
+    }
+    if queue == 1 {
+        scene.regs[WDESC] |= u32::from(random.percent(80));
+    }
+    scene.regs[TNEXT[queue]] = clock.wrapping_sub(random.below(4));
+    if random.percent(20) {
+        scene.regs[TNEXT[queue]] = random.pick(&[clock ^ MIN_INT, clock.wrapping_add(1)]);
+    }
+}
+
+fn function(random: &mut Random, scene: &mut Scene) {
+    let function = random.below(15);
+    let near = random.below(16).wrapping_sub(6);
+    let any = random.word();
+    let mut operand = match function {
+        J => random.below(40).wrapping_sub(20),
+        LDC => random.pick(&[near, any]),
+        _ if random.percent(90) => near,
+        _ => any,
+    };
+    if function == STL && random.percent(30) {
+        operand = scheduler_word(random, scene).wrapping_sub(scene.regs[WDESC] & !1) / 4;
+    }
+    if function == 8 || function == 12 {
+        scene.regs[A] = edge(random);
+        let same = scene.regs[A];
+        operand = random.pick(&[near, any, same]);
+    }
+    if (function == 3 || function == 14) && random.percent(85) {
+        scene.regs[A] = scene.address(random);
+    }
+    if function == 10 {
+        scene.regs[A] = random.below(2);
+    }
+    place(random, scene, function, operand);
+}
+
+/// A word that StartNextProcess is going to read: the step's own stores must be seen there.
+fn scheduler_word(random: &mut Random, scene: &mut Scene) -> u32 {
+    scene.regs[STATUS] |= GOTO_SNP;
+    let level = (scene.regs[WDESC] & 1) as usize;
+    let front = scene.regs[FPTR[level]];
+    if front == NOT_PROCESS && level == 0 {
+        return SAVE_BASE + 4 * random.below(6);
+    }
+    let offset = random.between(1, 2);
+    front.wrapping_sub(4 * offset)
+}
+
+fn unlisted(random: &mut Random, scene: &mut Scene) {
+    let any = random.word();
+    let above = random.between(0x5A, 0x200);
+    let code = random.pick(&[0x11, 0x14, 0x23, 0x28, 0x2D, 0x63, 0x19B, above, above, any]);
+    place(random, scene, 15, code);
+}
+
+/// Puts the last byte of an instruction at Iptr and the rest of its operand into Oreg.
+fn place(random: &mut Random, scene: &mut Scene, function: u32, operand: u32) {
+    scene.regs[OREG] = operand & !15;
+    if random.percent(2) {
+        scene.regs[OREG] |= random.below(16);
+    }
+    let iptr = scene.regs[IPTR];
+    scene.put_byte(iptr, (function << 4) | (operand & 15));
+    if scene.regs[OREG] == 0 {
+        if random.percent(97) {
+            quiet_channels(scene);
+            scene.regs[FLAGS] &= !(TENABLED[0] | TENABLED[1]);
+        }
+    } else if random.percent(20) {
+        let channel = random.below(LINK_CHANS as u32) as usize;
+        scene.regs[flags_of(channel)] |= random.pick(&[RUN_REQUEST, READY_REQUEST]);
+        scene.regs[FLAGS] |= random.pick(&TENABLED);
+    }
+    if random.percent(85) {
+        scene.regs[FLAGS] &= !IDLE;
+    }
+}
+
+fn quiet_channels(scene: &mut Scene) {
+    for channel in 0..LINK_CHANS {
+        scene.regs[flags_of(channel)] &= !(RUN_REQUEST | READY_REQUEST);
+    }
+}
+
+/// Operands that suit the operation.
+fn operands(random: &mut Random, scene: &mut Scene, name: &str) {
+    let code = code_of(name);
+    match name {
+        "lb" | "sb" | "saveh" | "savel" => scene.regs[A] = scene.address(random),
+        "lend" => loop_end(random, scene),
+        "in" | "out" => communication(random, scene, name == "in"),
+        "outword" | "outbyte" => communication(random, scene, false),
+        "resetch" => scene.regs[A] = channel_address(random, scene),
+        "move" => block(random, scene),
+        "startp" => {
+            scene.regs[A] = scene.spot(random);
+            scene.regs[B] = random.below(30).wrapping_sub(15);
+        }
+        "endp" => {
+            scene.regs[A] = scene.spot(random);
+            let at = scene.regs[A];
+            let count = random.pick(&[0, 1, 1, 1, 2, 7]);
+            scene.put(at, 1, count);
+        }
+        "runp" | "gajw" => scene.regs[A] = scene.descriptor(random),
+        "shl" | "shr" => shift(random, scene, 32),
+        "lshl" | "lshr" => shift(random, scene, 64),
+        "ldiv" => long_division(random, scene),
+        "lsum" | "ldiff" | "ladd" | "lsub" => carry(random, scene),
+        "norm" => normal(random, scene),
+        "enbs" | "enbt" | "enbc" | "diss" | "disc" | "dist" => guard(random, scene, name),
+        "tin" | "taltwt" => timer_wait(random, scene),
+        "alt" | "altwt" | "altend" | "talt" | "rev" | "stopp" | "ret" => {}
+        _ if code == 0 => {}
+        _ => arithmetic(random, scene),
+    }
+}
+
+/// A number at an edge of the range.
+fn edge(random: &mut Random) -> u32 {
+    let any = random.word();
+    let small = random.below(9).wrapping_sub(4);
+    let high = (MIN_INT - 4).wrapping_add(random.below(9));
+    random.pick(&[small, small, high, 1 << 15, 1 << 16, any])
+}
+
+fn arithmetic(random: &mut Random, scene: &mut Scene) {
+    for register in [A, B, C] {
+        scene.regs[register] = edge(random);
+    }
+    if random.percent(25) {
+        scene.regs[B] = scene.regs[A].wrapping_add(random.below(3)).wrapping_sub(1);
+    }
+}
+
+fn carry(random: &mut Random, scene: &mut Scene) {
+    arithmetic(random, scene);
+    if random.percent(40) {
+        scene.regs[B] = (!scene.regs[A])
+            .wrapping_add(random.below(4))
+            .wrapping_sub(1);
+    }
+    scene.regs[C] = random.pick(&[0, 1, 2, 3]);
+}
+
+fn shift(random: &mut Random, scene: &mut Scene, bits: u32) {
+    scene.regs[A] = match random.below(10) {
+        0..=7 => random.below(bits + 3),
+        8 => random.pick(&[bits - 1, bits, bits + 1]),
+        _ => random.word(),
+    };
+    scene.regs[B] = random.word();
+    scene.regs[C] = random.word();
+}
+
+fn long_division(random: &mut Random, scene: &mut Scene) {
+    arithmetic(random, scene);
+    scene.regs[B] = random.word();
+    if random.percent(70) && scene.regs[A] != 0 {
+        scene.regs[C] = random.below(scene.regs[A]);
+    }
+}
+
+fn normal(random: &mut Random, scene: &mut Scene) {
+    let pair = if random.percent(10) {
+        0
+    } else {
+        random.long() >> random.below(64)
+    };
+    scene.regs[A] = pair as u32;
+    scene.regs[B] = (pair >> 32) as u32;
+}
+
+fn loop_end(random: &mut Random, scene: &mut Scene) {
+    let block = scene.address(random);
+    scene.regs[B] = block;
+    scene.regs[A] = random.below(20);
+    let count = random.pick(&[0, 1, 2, 3, 5, MIN_INT, MIN_INT + 1, MIN_INT - 1, u32::MAX]);
+    scene.put(block, 1, count);
+}
+
+/// Two blocks, often close to each other or on words that the scheduler is going to read.
+fn block(random: &mut Random, scene: &mut Scene) {
+    let any = random.word();
+    let bytes = 4 * scene.size as u32;
+    let few = random.below(40);
+    scene.regs[A] = random.pick(&[few, few, few, few, few, few, few, 0, bytes, bytes + 1, any]);
+    scene.regs[C] = scene.inside(random);
+    scene.regs[B] = match random.below(10) {
+        0..=3 => scene.regs[C].wrapping_add(random.below(13)).wrapping_sub(6),
+        4 => scheduler_word(random, scene),
+        _ => scene.inside(random),
+    };
+}
+
+fn channel_address(random: &mut Random, scene: &Scene) -> u32 {
+    let low = if random.percent(10) {
+        random.below(4)
+    } else {
+        0
+    };
+    match random.below(10) {
+        0..=4 => word(random.below(9)) + low,
+        5 => word(random.between(8, 10)) + low,
+        _ => scene.address(random),
+    }
+}
+
+/// A message on a hard channel, or on a soft one where a partner waits or nobody does.
+fn communication(random: &mut Random, scene: &mut Scene, input: bool) {
+    let channel = channel_address(random, scene);
+    scene.regs[A] = random.pick(&[0, 1, 2, 3, 4, 5, 9, 17]);
+    scene.regs[B] = channel;
+    scene.regs[C] = scene.inside(random);
+    if channel.wrapping_sub(MIN_INT) / 4 < LINK_CHANS as u32 {
+        return;
+    }
+    let partner = scene.descriptor(random);
+    match random.below(10) {
+        0..=2 => scene.put(channel, 0, NOT_PROCESS),
+        _ => scene.put(channel, 0, partner),
+    }
+    let buffer = scene.inside(random);
+    let state = random.pick(&[ENABLING, WAITING, WAITING, READY]);
+    let alternative = !input && random.percent(50);
+    scene.put(
+        partner & !1,
+        POINTER_S,
+        if alternative { state } else { buffer },
+    );
+}
+
+fn guard(random: &mut Random, scene: &mut Scene, name: &str) {
+    let truth = random.pick(&[0, 1, 1, 1, 2]);
+    let channel = channel_address(random, scene);
+    let time = scene.time(random);
+    let enables = name.starts_with('e');
+    let about = if name.ends_with('t') { time } else { channel };
+    let wptr = scene.regs[WDESC] & !1;
+    if enables {
+        scene.regs[A] = truth;
+        scene.regs[B] = about;
+    } else {
+        scene.regs[A] = random.below(50);
+        scene.regs[B] = truth;
+        scene.regs[C] = about;
+        if random.percent(60) {
+            scene.put(wptr, 0, NONE_SELECTED);
+        }
+    }
+    if name == "enbt" && random.percent(85) {
+        let mark = random.pick(&[TIME_SET, TIME_NOT_SET]);
+        scene.put(wptr, TLINK_S, mark);
+    }
+    if name.ends_with('c') && random.percent(60) {
+        let wdesc = scene.regs[WDESC];
+        let content = random.pick(&[NOT_PROCESS, wdesc, wdesc ^ 1]);
+        scene.put(channel, 0, content);
+    }
+}
+
+fn timer_wait(random: &mut Random, scene: &mut Scene) {
+    let level = (scene.regs[WDESC] & 1) as usize;
+    let clock = scene.regs[CLOCK[level]];
+    let near = clock.wrapping_add(random.below(24)).wrapping_sub(2);
+    scene.regs[A] = if random.percent(85) {
+        near
+    } else {
+        scene.time(random)
+    };
+    let wptr = scene.regs[WDESC] & !1;
+    if random.percent(60) {
+        scene.put(wptr, TLINK_S, TIME_SET);
+        scene.put(wptr, STATE_S, ENABLING);
+        scene.put(wptr, TIME_S, near);
+    }
+}

@@ -1,0 +1,18 @@
+//! Holds two emulators of the T414 against each other: cases, sequences and whole runs.
+#![forbid(unsafe_code)]
+
+pub mod assemble;
+pub mod case;
+pub mod compare;
+pub mod explain;
+pub mod generate;
+pub mod names;
+pub mod process;
+pub mod program;
+pub mod protocol;
+pub mod random;
+pub mod respond;
+pub mod runs;
+pub mod sequence;
+pub mod side;
+pub mod table;

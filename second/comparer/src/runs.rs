@@ -1,0 +1,91 @@
+//! Whole runs of document 01's program: random standard inputs, the lines compared.
+
+use crate::assemble;
+use crate::process::Program;
+use crate::program;
+use crate::random::Random;
+
+/// A program that runs code from standard input.
+pub enum Runner {
+    Second,
+    Program(Program),
+}
+
+impl Runner {
+    /// `second`, or a program.
+    pub fn find(text: &str) -> Result<Runner, String> {
+        if text == "second" {
+            return Ok(Runner::Second);
+        }
+        Program::find(text).map(Runner::Program)
+    }
+
+    fn line(&self, input: &[u8]) -> Result<String, String> {
+        match self {
+            Runner::Second => Ok(program::line(input) + "\n"),
+            Runner::Program(program) => {
+                let outcome = program.run(input.to_vec())?;
+                if !outcome.status.success() {
+                    let complaint = outcome.complaint;
+                    return Err(format!("a run ended with {}: {complaint}", outcome.status));
+                }
+                Ok(String::from_utf8_lossy(&outcome.output).into())
+            }
+        }
+    }
+}
+
+/// Lengths around the limits of the program's memory come first.
+const LENGTHS: [usize; 8] = [0, 1, 4_019, 4_020, 4_021, 4_022, 8_042, 2];
+
+/// The number of different lines, and the first few in words.
+pub fn compare(
+    a: &Runner,
+    b: &Runner,
+    seed: u64,
+    count: u64,
+) -> Result<(u64, Vec<String>), String> {
+    let mut random = Random::new(seed);
+    let mut different = 0;
+    let mut shown = Vec::new();
+    for number in 0..count {
+        let input = input(&mut random, number);
+        let (ours, theirs) = (a.line(&input)?, b.line(&input)?);
+        if ours == theirs {
+            continue;
+        }
+        different += 1;
+        if shown.len() < 3 {
+            let head: Vec<String> = input
+                .iter()
+                .take(40)
+                .map(|byte| format!("{byte:02X}"))
+                .collect();
+            shown.push(format!(
+                "run {number}: {} bytes, {}\n  {}  against\n  {}",
+                input.len(),
+                head.join(" "),
+                ours,
+                theirs
+            ));
+        }
+    }
+    Ok((different, shown))
+}
+
+fn input(random: &mut Random, number: u64) -> Vec<u8> {
+    let first = LENGTHS.get(number as usize).copied();
+    let length = first.unwrap_or_else(|| match random.below(10) {
+        0 => random.between(4_000, 4_030) as usize,
+        1 => random.below(30) as usize,
+        _ => random.between(30, 300) as usize,
+    });
+    if number == LENGTHS.len() as u64 {
+        return vec![0x41, 0x81, 0x25, 0xF8, 0x21, 0xF0];
+    }
+    match random.below(4) {
+        0 => (0..length).map(|_| random.word() as u8).collect(),
+        _ if length == 0 => Vec::new(),
+        _ => assemble::program(random, length),
+    }
+}

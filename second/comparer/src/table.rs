@@ -1,0 +1,200 @@
+//! What a case asks for, told from the state alone, and a table of how often it was accepted or refused.
+
+use emulator::registers::*;
+
+use crate::case::{Call, Case};
+use crate::names::{self, FUNCTIONS, OPERATIONS};
+
+/// What a case asks an emulator to do.
+#[derive(Clone, Copy, Debug, PartialEq, Eq)]
+pub enum Asked {
+    Call(Call),
+    RunRequest(usize),
+    ReadyRequest(usize),
+    Timer(usize),
+    /// A function other than opr, with its operand.
+    Function(u32, u32),
+    /// The code of an operation, listed or not.
+    Operation(u32),
+    /// The byte at Iptr is outside memory.
+    NoByte,
+}
+
+pub fn asked(case: &Case) -> Asked {
+    if case.call != Call::Step {
+        return Asked::Call(case.call);
+    }
+    let regs = case.regs();
+    if regs[OREG] == 0 {
+        if let Some(request) = channel_asked(regs) {
+            return request;
+        }
+        if let Some(queue) = timer_asked(regs) {
+            return Asked::Timer(queue);
+        }
+    }
+    let index = (regs[IPTR].wrapping_sub(MIN_INT) / 4) as usize;
+    let Some(word) = case.memory.get(index) else {
+        return Asked::NoByte;
+    };
+    let byte = (word >> (8 * (regs[IPTR] % 4))) % 256;
+    let operand = regs[OREG] | (byte % 16);
+    match byte / 16 {
+        15 => Asked::Operation(operand),
+        function => Asked::Function(function, operand),
+    }
+}
+
+fn channel_asked(regs: &Registers) -> Option<Asked> {
+    let flags = |channel: &usize| regs[flags_of(*channel)];
+    let asks = |channel: &usize| flags(channel) & (RUN_REQUEST | READY_REQUEST) != 0;
+    let channel = (0..LINK_CHANS).find(asks)?;
+    if flags(&channel) & RUN_REQUEST != 0 {
+        Some(Asked::RunRequest(channel))
+    } else {
+        Some(Asked::ReadyRequest(channel))
+    }
+}
+
+fn timer_asked(regs: &Registers) -> Option<usize> {
+    (0..2).find(|&queue| {
+        let next_after_clock = regs[TNEXT[queue]].wrapping_sub(regs[CLOCK[queue]]);
+        let due = next_after_clock == 0 || next_after_clock >= 1 << 31;
+        let at_level = queue == 0 || regs[WDESC] % 2 == 1;
+        regs[FLAGS] & TENABLED[queue] != 0 && due && at_level
+    })
+}
+
+/// In words: what was executed.
+pub fn describe(asked: Asked) -> String {
+    match asked {
+        Asked::Call(call) => call.name().into(),
+        Asked::RunRequest(channel) => format!("step: run request of channel {channel}"),
+        Asked::ReadyRequest(channel) => format!("step: ready request of channel {channel}"),
+        Asked::Timer(queue) => format!("step: timer {queue}"),
+        Asked::Function(function, operand) => {
+            format!("step: {} #{operand:X}", FUNCTIONS[function as usize])
+        }
+        Asked::Operation(code) => match names::operation(code) {
+            Some(name) => format!("step: {name}"),
+            None => format!("step: unlisted operation #{code:X}"),
+        },
+        Asked::NoByte => "step: fetch outside memory".into(),
+    }
+}
+
+/// Answers are counted by number; the last place is for numbers that document 01 does not have.
+const ANSWERS: usize = 14;
+
+/// How often each row was answered with each number.
+pub struct Table {
+    rows: Vec<(String, [u64; ANSWERS])>,
+}
+
+const REQUESTS: usize = 8;
+const TIMERS: usize = REQUESTS + 2;
+const NO_BYTE: usize = TIMERS + 2;
+const UNLISTED: usize = NO_BYTE + 1;
+const FUNCTION: usize = UNLISTED + 1;
+const OPERATION: usize = FUNCTION + 16;
+
+impl Table {
+    pub fn new() -> Table {
+        let mut names: Vec<String> = Call::ALL.map(|call| call.name().into()).into();
+        for other in ["run request", "ready request", "timer 0", "timer 1"] {
+            names.push(other.into());
+        }
+        names.push("no byte".into());
+        names.push("unlisted".into());
+        names.extend(FUNCTIONS.map(String::from));
+        names.extend(OPERATIONS.map(|entry| entry.1.into()));
+        let rows = names.into_iter().map(|name| (name, [0; ANSWERS])).collect();
+        Table { rows }
+    }
+
+    pub fn count(&mut self, asked: Asked, answer: u32) {
+        let answer = (answer as usize).min(ANSWERS - 1);
+        if !matches!(asked, Asked::Call(_)) {
+            self.rows[Call::Step as usize].1[answer] += 1;
+        }
+        if matches!(asked, Asked::Operation(_)) {
+            self.rows[FUNCTION + 15].1[answer] += 1;
+        }
+        self.rows[row_of(asked)].1[answer] += 1;
+    }
+
+    pub fn print(&self) -> String {
+        let mut text = format!("{:<14}{:>9}", "", "accepted");
+        for number in 1..ANSWERS - 1 {
+            text += &format!("{number:>7}");
+        }
+        for (name, counts) in &self.rows {
+            text += &format!("\n{name:<14}{:>9}", counts[0]);
+            for count in &counts[1..ANSWERS - 1] {
+                text += &format!(
+                    "{:>7}",
+                    if *count == 0 {
+                        ".".into()
+                    } else {
+                        count.to_string()
+                    }
+                );
+            }
+        }
+        text
+    }
+
+    /// What falls short: fewer than `least` accepted, or a refusal that a call can meet and did not.
+    pub fn shortfalls(&self, least: u64) -> Vec<String> {
+        let mut short = Vec::new();
+        for (row, (name, counts)) in self.rows.iter().enumerate() {
+            let can_be_accepted = row != NO_BYTE && row != UNLISTED;
+            if can_be_accepted && counts[0] < least {
+                short.push(format!("{name}: accepted {} times only", counts[0]));
+            }
+        }
+        for call in Call::ALL {
+            for &number in meets(call) {
+                let (name, counts) = &self.rows[call as usize];
+                if counts[number] == 0 {
+                    short.push(format!("{name}: never answered {number}"));
+                }
+            }
+        }
+        short
+    }
+}
+
+impl Default for Table {
+    fn default() -> Self {
+        Table::new()
+    }
+}
+
+fn row_of(asked: Asked) -> usize {
+    match asked {
+        Asked::Call(call) => call as usize,
+        Asked::RunRequest(_) => REQUESTS,
+        Asked::ReadyRequest(_) => REQUESTS + 1,
+        Asked::Timer(queue) => TIMERS + queue,
+        Asked::NoByte => NO_BYTE,
+        Asked::Function(function, _) => FUNCTION + function as usize,
+        Asked::Operation(code) => {
+            let found = OPERATIONS.binary_search_by_key(&code, |entry| entry.0);
+            found.map_or(UNLISTED, |place| OPERATION + place)
+        }
+    }
+}
+
+/// The refusals that a call can meet, by document 01's table.
+fn meets(call: Call) -> &'static [usize] {
+    match call {
+        Call::Fresh => &[1, 2],
+        Call::Step => &[1, 4, 6, 7, 9, 10, 11, 12],
+        Call::Tick => &[1, 4, 12],
+        Call::Take | Call::Give => &[1, 3, 4, 8, 10, 12],
+        Call::Event => &[1, 4, 8, 12],
+        Call::Undo => &[1, 4, 5],
+        Call::Clear => &[1],
+    }
+}

@@ -1,0 +1,98 @@
+//! The block move in one step, as document 01 rules: bytes in rising order, each read just before it
+//! is stored, the count unsigned.
+
+use crate::memory::{Kept, Work};
+use crate::mistakes::{Care, Mistake};
+use crate::registers::*;
+use crate::words::{at_byte, byte_of, with_byte};
+use crate::Refusal;
+
+impl<K: Care> Work<'_, K> {
+    /// Moves A bytes from C to B. The three are references in document 000, so that they end at
+    /// 0, behind the destination and behind the source (DECISIONS 14).
+    pub fn block_move(&mut self) -> Result<(), Refusal> {
+        let (source, dest, count) = (self.regs[C], self.regs[B], self.regs[A]);
+        if count == 0 {
+            return Ok(());
+        }
+        let from = self.bytes_inside(source, count)?;
+        let to = self.bytes_inside(dest, count)?;
+        self.keep_range(to / 4, (to + count as usize - 1) / 4 + 1);
+        if self.wrong(Mistake::OverlapSavedTwice) && from.abs_diff(to) < count as usize {
+            self.kept
+                .push((from.max(to) as u32 / 4, self.memory[from.max(to) / 4]));
+        }
+        if self.wrong(Mistake::MoveBackwards) && from < to {
+            for i in (0..count as usize).rev() {
+                self.copy_byte(from + i, to + i);
+            }
+        } else {
+            self.copy(from, to, count as usize);
+        }
+        if self.wrong(Mistake::MoveKeepsRegisters) {
+            return Ok(());
+        }
+        self.regs[A] = 0;
+        self.regs[B] = at_byte(dest, count);
+        self.regs[C] = at_byte(source, count);
+        Ok(())
+    }
+
+    /// The byte offset of a block that lies inside memory as a whole. A block that does not is
+    /// refused at its first byte outside; what went before it would be undone again.
+    fn bytes_inside(&self, address: u32, count: u32) -> Result<usize, Refusal> {
+        let offset = u64::from(address.wrapping_sub(MIN_INT));
+        if offset + u64::from(count) > 4 * self.memory.len() as u64 {
+            return Err(Refusal::Outside);
+        }
+        Ok(offset as usize)
+    }
+
+    /// Keeps the words from `first` to below `end` that are not kept yet.
+    fn keep_range(&mut self, first: usize, end: usize) {
+        let before = self.kept.len();
+        for index in first..end {
+            let same = |kept: &Kept| kept.0 == index as u32;
+            let again = self.wrong(Mistake::MoveForgetsEarlierStores);
+            if !self.kept[..before].iter().any(same) || again {
+                self.kept.push((index as u32, self.memory[index]));
+            }
+        }
+        self.moved = first..end;
+        self.moved_kept = before..self.kept.len();
+    }
+
+    /// A word at a time in the middle is the same as byte by byte, unless the destination is one to
+    /// three bytes above the source: then a word would hold bytes that it is itself to supply.
+    fn copy(&mut self, from: usize, to: usize, count: usize) {
+        let head = count.min(to.wrapping_neg() % 4);
+        let close = to > from && to - from < 4;
+        let words = if close { 0 } else { (count - head) / 4 };
+        for i in 0..head {
+            self.copy_byte(from + i, to + i);
+        }
+        for i in 0..words {
+            let at = head + 4 * i;
+            self.memory[(to + at) / 4] = self.word_at(from + at);
+        }
+        for i in head + 4 * words..count {
+            self.copy_byte(from + i, to + i);
+        }
+    }
+
+    /// The four bytes from a byte offset on.
+    fn word_at(&self, offset: usize) -> u32 {
+        let low = self.memory[offset / 4];
+        let shift = 8 * (offset % 4) as u32;
+        if shift == 0 {
+            return low;
+        }
+        (low >> shift) | (self.memory[offset / 4 + 1] << (32 - shift))
+    }
+
+    fn copy_byte(&mut self, from: usize, to: usize) {
+        let byte = byte_of(self.memory[from / 4], (from % 4) as u32);
+        let word = &mut self.memory[to / 4];
+        *word = with_byte(*word, (to % 4) as u32, byte);
+    }
+}

@@ -1,0 +1,108 @@
+//! Document 000, 1.5: the memory access procedures, over a call in progress.
+//!
+//! The first old value of every word that the call stores to is kept: it undoes a refused call and
+//! becomes the record of an accepted one.
+
+use std::ops::Range;
+
+use crate::mistakes::{Care, Mistake};
+use crate::registers::*;
+use crate::words::{at_word, byte_of, with_byte};
+use crate::Refusal;
+
+/// A stored word's index and its value before the call.
+pub type Kept = (u32, u32);
+
+/// A call in progress.
+pub struct Work<'a, K> {
+    pub regs: &'a mut Registers,
+    pub memory: &'a mut [u32],
+    pub kept: &'a mut Vec<Kept>,
+    /// The words that a move of this call stores to, and where in `kept` they stand.
+    pub moved: Range<usize>,
+    pub moved_kept: Range<usize>,
+    pub care: K,
+    /// Only read by a wrong variant: StartNextProcess is running.
+    pub starting: bool,
+}
+
+impl<K: Care> Work<'_, K> {
+    #[inline(always)]
+    pub fn wrong(&self, mistake: Mistake) -> bool {
+        self.care.wrong(mistake)
+    }
+
+    /// The word that an address falls in; a word access ignores the low two bits.
+    #[inline(always)]
+    pub fn index(&self, address: u32) -> Result<usize, Refusal> {
+        let index = (address.wrapping_sub(MIN_INT) >> 2) as usize;
+        if index < self.memory.len() {
+            Ok(index)
+        } else {
+            Err(Refusal::Outside)
+        }
+    }
+
+    #[inline(always)]
+    pub fn r_index_word(&self, base: u32, n: u32) -> Result<u32, Refusal> {
+        let index = self.index(at_word(base, n))?;
+        if self.wrong(Mistake::StaleStart) && self.starting {
+            return Ok(self.before(index));
+        }
+        Ok(self.memory[index])
+    }
+
+    #[inline(always)]
+    pub fn w_index_word(&mut self, base: u32, n: u32, x: u32) -> Result<(), Refusal> {
+        let index = self.index(at_word(base, n))?;
+        self.put(index, x);
+        Ok(())
+    }
+
+    #[inline(always)]
+    pub fn r_index_byte(&self, base: u32, n: u32) -> Result<u32, Refusal> {
+        let address = base.wrapping_add(n);
+        let word = self.memory[self.index(address)?];
+        Ok(byte_of(word, self.selector(address)))
+    }
+
+    #[inline(always)]
+    pub fn w_index_byte(&mut self, base: u32, n: u32, byte: u32) -> Result<(), Refusal> {
+        let address = base.wrapping_add(n);
+        let index = self.index(address)?;
+        let word = with_byte(self.memory[index], self.selector(address), byte);
+        self.put(index, word);
+        Ok(())
+    }
+
+    fn selector(&self, address: u32) -> u32 {
+        if self.wrong(Mistake::ByteOrder) {
+            return 3 - (address & 3);
+        }
+        address & 3
+    }
+
+    fn put(&mut self, index: usize, x: u32) {
+        if self.wrong(Mistake::OnlyChangedWords) && self.memory[index] == x {
+            return;
+        }
+        if !self.is_kept(index) || self.wrong(Mistake::WordSavedTwice) {
+            self.kept.push((index as u32, self.memory[index]));
+        }
+        self.memory[index] = x;
+    }
+
+    /// Single stores are few, so a walk finds them; the words of a move are known by their range.
+    fn is_kept(&self, index: usize) -> bool {
+        let same = |kept: &Kept| kept.0 == index as u32;
+        self.moved.contains(&index)
+            || self.kept[..self.moved_kept.start].iter().any(same)
+            || self.kept[self.moved_kept.end..].iter().any(same)
+    }
+
+    /// The value before the call, for the wrong variant that reads it.
+    fn before(&self, index: usize) -> u32 {
+        let kept = self.kept.iter().find(|kept| kept.0 == index as u32);
+        kept.map_or(self.memory[index], |kept| kept.1)
+    }
+}

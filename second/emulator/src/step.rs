@@ -1,0 +1,169 @@
+//! Document 01, "One step".
+
+use crate::memory::Work;
+use crate::mistakes::{Care, Mistake};
+use crate::registers::*;
+use crate::words::later;
+use crate::Refusal;
+
+const PFIX: u32 = 2;
+const NFIX: u32 = 6;
+
+impl<K: Care> Work<'_, K> {
+    pub fn step(&mut self) -> Result<(), Refusal> {
+        let before = self.regs[STATUS];
+        if self.regs[FLAGS] & HALTED != 0 {
+            return Err(Refusal::Halted);
+        }
+        if self.wrong(Mistake::GotoSnpFirst) && before & GOTO_SNP != 0 {
+            return self.start_next_process();
+        }
+        let prefix = self.act()?;
+        let after = self.regs[STATUS];
+        if after & GOTO_SNP != 0 && (!prefix || self.wrong(Mistake::PrefixActsOnGotoSnp)) {
+            self.starting = true;
+            self.start_next_process()?;
+        }
+        if self.wrong(Mistake::HaltJudgedBeforeStart) {
+            self.halt_on_error(before, after);
+        } else {
+            self.halt_on_error(before, self.regs[STATUS]);
+        }
+        Ok(())
+    }
+
+    /// Does (a), (b) or (c), whichever applies first, and tells whether it was a prefix.
+    fn act(&mut self) -> Result<bool, Refusal> {
+        let between = self.regs[OREG] == 0;
+        if between || self.wrong(Mistake::LinkServedBetweenPrefixes) {
+            if let Some((channel, request)) = self.channel_request() {
+                self.regs[flags_of(channel)] &= !request;
+                self.handle_channel_request(request, channel)?;
+                return Ok(false);
+            }
+        }
+        if between || self.wrong(Mistake::TimerServedBetweenPrefixes) {
+            if let Some(queue) = self.ready_timer() {
+                self.handle_timer_request(queue)?;
+                return Ok(false);
+            }
+        }
+        if self.regs[FLAGS] & IDLE != 0 {
+            return Err(Refusal::Idle);
+        }
+        self.instruction()
+    }
+
+    /// The lowest channel with a request, its run request before its ready request.
+    fn channel_request(&self) -> Option<(usize, u32)> {
+        let requests = |c: usize| self.regs[flags_of(c)] & (RUN_REQUEST | READY_REQUEST);
+        let channel = if self.wrong(Mistake::HighestChannelFirst) {
+            (0..LINK_CHANS).rev().find(|&c| requests(c) != 0)?
+        } else {
+            (0..LINK_CHANS).find(|&c| requests(c) != 0)?
+        };
+        let found = requests(channel);
+        let run_first = !self.wrong(Mistake::ReadyBeforeRun) || found & READY_REQUEST == 0;
+        if found & RUN_REQUEST != 0 && run_first {
+            Some((channel, RUN_REQUEST))
+        } else {
+            Some((channel, READY_REQUEST))
+        }
+    }
+
+    /// DECISIONS 16: the timer's flag bit, and timer 1 only while a low process is current.
+    fn ready_timer(&self) -> Option<usize> {
+        let ready = |queue: usize| {
+            let enabled = self.regs[FLAGS] & TENABLED[queue] != 0;
+            (enabled || self.wrong(Mistake::TimerFlagUnasked))
+                && !later(self.care, self.regs[TNEXT[queue]], self.regs[CLOCK[queue]])
+        };
+        if ready(0) {
+            return Some(0);
+        }
+        let low = self.priority() == 1 || self.wrong(Mistake::LowTimerAtHighPriority);
+        (low && ready(1)).then_some(1)
+    }
+
+    /// (c): DECISIONS 2 says how the operand is built.
+    fn instruction(&mut self) -> Result<bool, Refusal> {
+        let byte = self.r_index_byte(self.regs[IPTR], 0)?;
+        self.regs[IPTR] = self.regs[IPTR].wrapping_add(1);
+        let operand = self.regs[OREG] | (byte & 15);
+        match byte >> 4 {
+            PFIX => self.regs[OREG] = operand << 4,
+            NFIX if self.wrong(Mistake::NfixShiftsFirst) => self.regs[OREG] = !(operand << 4),
+            NFIX => self.regs[OREG] = !operand << 4,
+            function => {
+                self.regs[OREG] = operand;
+                self.function(function, operand)?;
+                if !(self.wrong(Mistake::RevLeavesOreg) && function == 15 && operand == 0) {
+                    self.regs[OREG] = 0;
+                }
+                return Ok(false);
+            }
+        }
+        Ok(true)
+    }
+
+    /// The error flag was clear before the step and is set after it (DECISIONS 18).
+    fn halt_on_error(&mut self, before: u32, after: u32) {
+        let rises = before & ERROR_FLAG == 0 || self.wrong(Mistake::OldErrorHalts);
+        if rises && after & ERROR_FLAG != 0 && after & HALT_ON_ERROR != 0 {
+            self.regs[FLAGS] |= HALTED;
+        }
+    }
+
+    pub fn set_error_flag(&mut self) {
+        self.regs[STATUS] |= ERROR_FLAG;
+    }
+
+    pub fn set_goto_snp(&mut self) {
+        self.regs[STATUS] |= GOTO_SNP;
+    }
+
+    /// `Priority`: 0 high, 1 low.
+    #[inline(always)]
+    pub fn priority(&self) -> usize {
+        (self.regs[WDESC] & 1) as usize
+    }
+
+    /// `Wptr`: bit 1 stays (DECISIONS 12).
+    #[inline(always)]
+    pub fn wptr(&self) -> u32 {
+        self.regs[WDESC] & !1
+    }
+
+    /// `UpDateWdescReg (temp BITOR Priority)`.
+    pub fn update_workspace(&mut self, pointer: u32) {
+        let priority = self.regs[WDESC] & 1;
+        let kept = if self.wrong(Mistake::WorkspaceMasked) {
+            pointer & !3
+        } else {
+            pointer
+        };
+        self.regs[WDESC] = kept | priority;
+    }
+
+    /// Pushes on the evaluation stack.
+    #[inline(always)]
+    pub fn push(&mut self, x: u32) {
+        self.regs[C] = self.regs[B];
+        self.regs[B] = self.regs[A];
+        self.regs[A] = x;
+    }
+
+    /// A takes a result of two operands, the rest moves up.
+    #[inline(always)]
+    pub fn result(&mut self, x: u32) {
+        self.regs[A] = x;
+        self.regs[B] = self.regs[C];
+    }
+
+    /// Pops A.
+    #[inline(always)]
+    pub fn pop(&mut self) {
+        self.regs[A] = self.regs[B];
+        self.regs[B] = self.regs[C];
+    }
+}
