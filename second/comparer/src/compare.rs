@@ -46,13 +46,21 @@ pub struct Report {
 }
 
 /// Where cases come from.
-enum Source {
+pub enum Source {
     Cases(Generator),
     Sequences(Box<Sequences>),
 }
 
 impl Source {
-    fn chunk(&mut self, count: usize) -> Result<Vec<Case>, String> {
+    pub fn new(seed: u64, calls: &[Call], sequences: bool) -> Source {
+        if sequences {
+            Source::Sequences(Box::new(Sequences::new(seed)))
+        } else {
+            Source::Cases(Generator::new(seed, calls))
+        }
+    }
+
+    pub fn chunk(&mut self, count: usize) -> Result<Vec<Case>, String> {
         match self {
             Source::Cases(generator) => Ok((0..count).map(|_| generator.case()).collect()),
             Source::Sequences(sequences) => sequences.cases(count),
@@ -62,11 +70,7 @@ impl Source {
 
 pub fn compare(a: &mut Side, b: &mut Side, options: &Options) -> Result<Report, String> {
     let began = Instant::now();
-    let mut source = if options.sequences {
-        Source::Sequences(Box::new(Sequences::new(options.seed)))
-    } else {
-        Source::Cases(Generator::new(options.seed, &options.calls))
-    };
+    let mut source = Source::new(options.seed, &options.calls, options.sequences);
     let mut report = Report::default();
     let mut left = options.count;
     while left > 0 {

@@ -85,7 +85,10 @@ fn input(random: &mut Random, number: u64) -> Vec<u8> {
     }
     match random.below(4) {
         0 => (0..length).map(|_| random.word() as u8).collect(),
-        _ if length == 0 => Vec::new(),
-        _ => assemble::program(random, length),
+        _ => {
+            let mut code = assemble::program(random, program::MEMORY as u32, length);
+            code.resize(length, 0);
+            code
+        }
     }
 }

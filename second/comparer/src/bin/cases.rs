@@ -1,13 +1,13 @@
-//! cases SEED COUNT [--table] [--check]: writes random cases in the batch protocol; with --table it
-//! prints how often each call, function and operation was accepted and met each refusal, with
-//! --check it also fails if one falls short of the bar.
+//! cases SEED COUNT [--seq] [--table] [--check]: writes random cases in the batch protocol, with --seq
+//! sequences of calls from fresh. With --table it prints how often each call, function and operation
+//! was accepted and met each refusal instead, with --check it fails if one falls short of the bar.
 #![forbid(unsafe_code)]
 
 use std::io::{self, BufWriter, Write};
 use std::process::ExitCode;
 
-use comparer::case::Call;
-use comparer::generate::Generator;
+use comparer::case::{Call, Case};
+use comparer::compare::Source;
 use comparer::protocol::put_case;
 use comparer::respond::respond;
 use comparer::table::{asked, Table};
@@ -17,56 +17,71 @@ use emulator::Emulator;
 const BAR: u64 = 100;
 
 fn main() -> ExitCode {
-    let (flags, numbers): (Vec<String>, Vec<String>) = std::env::args()
-        .skip(1)
-        .partition(|argument| argument.starts_with("--"));
-    let numbers: Option<Vec<u64>> = numbers.iter().map(|number| number.parse().ok()).collect();
-    let known = flags
-        .iter()
-        .all(|flag| flag == "--table" || flag == "--check");
-    let (Some([seed, count]), true) = (numbers.as_deref(), known) else {
-        eprintln!("cases SEED COUNT [--table] [--check]");
-        return ExitCode::from(2);
-    };
-    if flags.is_empty() {
-        return write(*seed, *count);
+    match work() {
+        Ok(()) => ExitCode::SUCCESS,
+        Err(text) => {
+            eprintln!("cases: {text}");
+            ExitCode::FAILURE
+        }
     }
-    let table = tally(*seed, *count);
-    if flags.iter().any(|flag| flag == "--table") {
+}
+
+fn work() -> Result<(), String> {
+    let is_flag = |argument: &String| argument.starts_with("--");
+    let (flags, numbers): (Vec<_>, Vec<_>) = std::env::args().skip(1).partition(is_flag);
+    let numbers: Option<Vec<u64>> = numbers.iter().map(|number| number.parse().ok()).collect();
+    let known = |flag: &String| ["--seq", "--table", "--check"].contains(&flag.as_str());
+    let (Some([seed, count]), true) = (numbers.as_deref(), flags.iter().all(known)) else {
+        return Err("SEED COUNT [--seq] [--table] [--check]".into());
+    };
+    let asks = |name: &str| flags.iter().any(|flag| flag == name);
+    let source = Source::new(*seed, &Call::ALL, asks("--seq"));
+    if !asks("--table") && !asks("--check") {
+        return write(source, *count);
+    }
+    let table = tally(source, *count)?;
+    if asks("--table") {
         println!("{}", table.print());
     }
     let short = table.shortfalls(BAR);
-    if flags.iter().any(|flag| flag == "--check") && !short.is_empty() {
-        eprintln!("the generator falls short:\n{}", short.join("\n"));
-        return ExitCode::FAILURE;
+    if asks("--check") && !short.is_empty() {
+        let short = short.join("\n");
+        return Err(format!("the generator falls short:\n{short}"));
     }
-    ExitCode::SUCCESS
+    Ok(())
 }
 
-fn write(seed: u64, count: u64) -> ExitCode {
-    let mut generator = Generator::new(seed, &Call::ALL);
+/// Cases chunk by chunk.
+fn each(mut source: Source, count: u64, mut work: impl FnMut(Case)) -> Result<(), String> {
+    let mut left = count;
+    while left > 0 {
+        let cases = source.chunk(left.min(1_000) as usize)?;
+        left -= cases.len() as u64;
+        cases.into_iter().for_each(&mut work);
+    }
+    Ok(())
+}
+
+fn write(source: Source, count: u64) -> Result<(), String> {
     let mut output = BufWriter::new(io::stdout().lock());
-    for _ in 0..count {
+    let mut outcome = Ok(());
+    each(source, count, |case| {
         let mut bytes = Vec::new();
-        put_case(&mut bytes, &generator.case());
-        if output.write_all(&bytes).is_err() {
-            return ExitCode::FAILURE;
+        put_case(&mut bytes, &case);
+        if outcome.is_ok() {
+            outcome = output.write_all(&bytes);
         }
-    }
-    match output.flush() {
-        Ok(()) => ExitCode::SUCCESS,
-        Err(_) => ExitCode::FAILURE,
-    }
+    })?;
+    let outcome = outcome.and_then(|()| output.flush());
+    outcome.map_err(|error| error.to_string())
 }
 
-fn tally(seed: u64, count: u64) -> Table {
-    let mut generator = Generator::new(seed, &Call::ALL);
+fn tally(source: Source, count: u64) -> Result<Table, String> {
     let mut emulator = Emulator::new();
     let mut table = Table::new();
-    for _ in 0..count {
-        let case = generator.case();
+    each(source, count, |case| {
         let asked = asked(&case);
         table.count(asked, respond(&mut emulator, case).answer);
-    }
-    table
+    })?;
+    Ok(table)
 }

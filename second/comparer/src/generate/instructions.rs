@@ -10,6 +10,12 @@ const STL: u32 = 13;
 const LDC: u32 = 4;
 const J: u32 = 0;
 
+/// Operations with many branches, drawn more often than the rest.
+const BUSY: [&str; 22] = [
+    "in", "out", "outword", "outbyte", "resetch", "enbc", "disc", "enbt", "dist", "diss", "tin",
+    "taltwt", "altwt", "startp", "endp", "runp", "stopp", "stoperr", "lend", "move", "in", "out",
+];
+
 pub fn prepare_step(random: &mut Random, scene: &mut Scene) {
     match random.below(100) {
         0..=9 => channel_request(random, scene),
@@ -17,11 +23,13 @@ pub fn prepare_step(random: &mut Random, scene: &mut Scene) {
         17..=40 => function(random, scene),
         41 => unlisted(random, scene),
         _ => {
-            let (code, name) = random.pick(&OPERATIONS);
+            let any = random.pick(&OPERATIONS).1;
+            let busy = random.pick(&BUSY);
+            let name = if random.percent(55) { any } else { busy };
             if random.percent(80) {
                 operands(random, scene, name);
             }
-            place(random, scene, 15, code);
+            place(random, scene, 15, code_of(name));
         }
     }
 }
@@ -136,7 +144,6 @@ fn quiet_channels(scene: &mut Scene) {
 
 /// Operands that suit the operation.
 fn operands(random: &mut Random, scene: &mut Scene, name: &str) {
-    let code = code_of(name);
     match name {
         "lb" | "sb" | "saveh" | "savel" => scene.regs[A] = scene.address(random),
         "lend" => loop_end(random, scene),
@@ -163,7 +170,6 @@ fn operands(random: &mut Random, scene: &mut Scene, name: &str) {
         "enbs" | "enbt" | "enbc" | "diss" | "disc" | "dist" => guard(random, scene, name),
         "tin" | "taltwt" => timer_wait(random, scene),
         "alt" | "altwt" | "altend" | "talt" | "rev" | "stopp" | "ret" => {}
-        _ if code == 0 => {}
         _ => arithmetic(random, scene),
     }
 }

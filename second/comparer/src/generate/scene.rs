@@ -40,8 +40,8 @@ impl Scene {
         let start = random.pick(&[near, near.wrapping_sub(20), MIN_INT + near - 20, any]);
         self.regs[CLOCK[0]] = start;
         self.regs[CLOCK[1]] = start.wrapping_add(random.below(8)).wrapping_sub(4);
-        for queue in 0..2 {
-            self.regs[TNEXT[queue]] = self.time(random);
+        for next in TNEXT {
+            self.regs[next] = self.time(random);
         }
         let any = random.word();
         self.regs[PRESCALER] = random.pick(&[0, 7, 62, 63, 64, any]);
@@ -122,7 +122,7 @@ impl Scene {
         }
         self.regs[STATUS] = self.status(random);
         for level in 0..2 {
-            let (front, back) = (self.spot(random), self.spot(random));
+            let (front, back) = (self.odd_spot(random), self.odd_spot(random));
             self.regs[FPTR[level]] = if random.percent(45) {
                 NOT_PROCESS
             } else {
@@ -208,6 +208,12 @@ impl Scene {
 
     pub fn spot(&self, random: &mut Random) -> u32 {
         random.pick(&self.spots)
+    }
+
+    /// A queue pointer; an odd one can change the priority (DECISIONS 23).
+    pub fn odd_spot(&self, random: &mut Random) -> u32 {
+        let odd = flag(random, 4, 1);
+        self.spot(random) | odd
     }
 
     /// A process descriptor.

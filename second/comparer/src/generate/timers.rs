@@ -41,7 +41,7 @@ fn members(random: &mut Random, scene: &Scene) -> Vec<u32> {
     }
     let mut chain = Vec::new();
     for _ in 0..random.between(1, 4) {
-        let spot = scene.spot(random);
+        let spot = scene.odd_spot(random);
         if !chain.contains(&spot) || random.percent(10) {
             chain.push(spot);
         }
