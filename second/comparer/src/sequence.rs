@@ -144,11 +144,11 @@ impl Mood {
         if random.percent(steps) {
             return Call::Step;
         }
-        self.from_outside(random, &left.machine.regs)
+        self.outside_call(random, &left.machine.regs)
     }
 
     /// A call that helps a waiting process, mostly.
-    fn from_outside(&mut self, random: &mut Random, regs: &Registers) -> Call {
+    fn outside_call(&mut self, random: &mut Random, regs: &Registers) -> Call {
         let helpful = helpful(regs);
         if helpful.is_empty() || random.percent(10) {
             let any = [Call::Tick, Call::Take, Call::Give, Call::Event, Call::Undo];

@@ -116,8 +116,10 @@ fn unlisted(random: &mut Random, scene: &mut Scene) {
 /// Puts the last byte of an instruction at Iptr and the rest of its operand into Oreg.
 fn place(random: &mut Random, scene: &mut Scene, function: u32, operand: u32) {
     scene.regs[OREG] = operand & !15;
-    if random.percent(2) {
-        scene.regs[OREG] |= random.below(16);
+    // The last nibble is ORed in, so it may stand in Oreg already, in part or with others.
+    if random.percent(4) {
+        let others = if random.percent(30) { 15 } else { operand & 15 };
+        scene.regs[OREG] |= others & random.below(16);
     }
     let iptr = scene.regs[IPTR];
     scene.put_byte(iptr, (function << 4) | (operand & 15));
