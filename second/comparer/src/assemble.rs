@@ -33,9 +33,10 @@ pub fn program(random: &mut Random, size: u32, length: usize) -> Vec<u8> {
         behind: MEM_START + (length as u32 + 60) / 4,
     };
     code.beginning();
+    code.begins.push(code.bytes.len());
     while code.bytes.len() < length {
-        code.begins.push(code.bytes.len());
         code.piece();
+        code.begins.push(code.bytes.len());
     }
     code.back("j", 2);
     code.bytes

@@ -60,7 +60,9 @@ fn last_record(random: &mut Random, case: &Case) -> Vec<u32> {
             0 => index,
             1 => random.below(words.max(1)),
             2 if random.percent(20) => random.pick(&[words, words + 1, u32::MAX]),
-            _ => (index + random.between(1, 5)).min(words.saturating_sub(1)),
+            _ => index
+                .saturating_add(random.between(1, 5))
+                .min(words.saturating_sub(1)),
         };
     }
     for register in 0..REGISTERS {

@@ -1,10 +1,8 @@
 //! DECISIONS 35 to 39: journals, refusals and bits without a name.
 
-mod rig;
-
+use crate::rig::*;
 use emulator::registers::*;
 use emulator::{number, Emulator, Machine};
-use rig::*;
 
 #[test]
 fn decision_35_the_journal_is_checked_exactly() {

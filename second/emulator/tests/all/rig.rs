@@ -1,5 +1,4 @@
 //! A machine on the bench: set it up, make calls, look at it.
-#![allow(dead_code)]
 
 use emulator::registers::*;
 use emulator::{number, Emulator, Machine};

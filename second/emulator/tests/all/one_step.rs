@@ -1,9 +1,7 @@
 //! DECISIONS 16 to 27: one step.
 
-mod rig;
-
+use crate::rig::*;
 use emulator::registers::*;
-use rig::*;
 
 const P: u32 = word(80);
 const Q: u32 = word(100);

@@ -1,9 +1,7 @@
 //! DECISIONS 28 to 34, 42 and 43: hard channels from both sides.
 
-mod rig;
-
+use crate::rig::*;
 use emulator::registers::*;
-use rig::*;
 
 const OUT: u32 = 0x0B;
 const IN: u32 = 0x07;

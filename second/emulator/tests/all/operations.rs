@@ -1,9 +1,7 @@
 //! DECISIONS 1 to 15: what operations leave in the registers.
 
-mod rig;
-
+use crate::rig::*;
 use emulator::registers::*;
-use rig::*;
 
 /// A, B, C and the error flag after an operation.
 fn after(code: u32, stack: [u32; 3]) -> ([u32; 3], bool) {

@@ -1,10 +1,8 @@
 //! Document 01, "Numbers at the edges": every line.
 
-mod rig;
-
+use crate::rig::*;
 use emulator::registers::*;
 use emulator::{number, Emulator};
-use rig::*;
 
 fn loads(bytes: &[u8]) -> u32 {
     Rig::quiet().run(bytes).get(A)

@@ -1,9 +1,7 @@
 //! Hand-made scenarios: several processes, channels and clocks at work.
 
-mod rig;
-
+use crate::rig::*;
 use emulator::registers::*;
-use rig::*;
 
 const P: u32 = word(80);
 const Q: u32 = word(100);

@@ -1,0 +1,5 @@
+//! The comparer, its generator and the programs.
+
+mod laws;
+mod programs;
+mod teeth;

@@ -1,0 +1,9 @@
+//! The second emulator against documents 000 and 01 and DECISIONS.
+
+mod calls;
+mod edges;
+mod links;
+mod one_step;
+mod operations;
+mod rig;
+mod scenarios;
