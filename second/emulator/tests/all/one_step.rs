@@ -213,7 +213,7 @@ fn interrupted(status: u32) -> Rig {
 
 #[test]
 fn decision_20_and_21_what_an_interrupt_saves() {
-    let all = u32::MAX & !GOTO_SNP;
+    let all = !GOTO_SNP;
     let rig = interrupted(all);
     assert_eq!(rig.get(STATUS), 0x8000_00FC);
     assert_eq!(rig.mem[11..18], [W | 1, CODE, 1, 2, 3, all, 0]);
