@@ -42,6 +42,8 @@ pub struct Report {
     pub compared: u64,
     pub different: u64,
     pub shown: Vec<String>,
+    /// The first case with a difference.
+    pub first: Option<Case>,
     pub took: Duration,
 }
 
@@ -106,6 +108,7 @@ fn judge(report: &mut Report, cases: &[Case], a: &[Response], b: &[Response], sh
             continue;
         }
         report.different += 1;
+        report.first.get_or_insert_with(|| case.clone());
         if report.shown.len() < show {
             let number = report.compared + at as u64;
             let text = explain(case, &a[at], &b[at]);

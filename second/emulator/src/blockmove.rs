@@ -66,8 +66,13 @@ impl<K: Care> Work<'_, K> {
     /// three bytes above the source: then a word would hold bytes that it is itself to supply.
     fn copy(&mut self, from: usize, to: usize, count: usize) {
         let head = count.min(to.wrapping_neg() % 4);
-        let close = to > from && to - from < 4;
-        let words = if close { 0 } else { (count - head) / 4 };
+        let close = to > from && to - from < 4 && !self.wrong(Mistake::CloseMoveByWords);
+        let stale = self.wrong(Mistake::StaleMoveSource);
+        let words = if close || stale {
+            0
+        } else {
+            (count - head) / 4
+        };
         for i in 0..head {
             self.copy_byte(from + i, to + i);
         }
@@ -75,7 +80,13 @@ impl<K: Care> Work<'_, K> {
             let at = head + 4 * i;
             self.memory[(to + at) / 4] = self.word_at(from + at);
         }
-        for i in head + 4 * words..count {
+        let end = if self.wrong(Mistake::MoveStoresWholeWords) {
+            let room = 4 * self.memory.len() - from.max(to);
+            ((to + count).next_multiple_of(4) - to).min(room)
+        } else {
+            count
+        };
+        for i in head + 4 * words..end {
             self.copy_byte(from + i, to + i);
         }
     }
@@ -91,7 +102,11 @@ impl<K: Care> Work<'_, K> {
     }
 
     fn copy_byte(&mut self, from: usize, to: usize) {
-        let byte = byte_of(self.memory[from / 4], (from % 4) as u32);
+        let mut source = self.memory[from / 4];
+        if self.wrong(Mistake::StaleMoveSource) && !self.moved.contains(&(from / 4)) {
+            source = self.before(from / 4);
+        }
+        let byte = byte_of(source, (from % 4) as u32);
         let word = &mut self.memory[to / 4];
         *word = with_byte(*word, (to % 4) as u32, byte);
     }

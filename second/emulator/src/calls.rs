@@ -177,6 +177,7 @@ impl<K: Care> Emulator<K> {
             moved_kept: 0..0,
             care: self.care,
             starting: false,
+            interrupting: false,
         });
         let answer = done.and_then(|done| {
             journal::add(self.care, machine, journal, &old, &mut self.kept)?;

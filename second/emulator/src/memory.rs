@@ -22,8 +22,9 @@ pub struct Work<'a, K> {
     pub moved: Range<usize>,
     pub moved_kept: Range<usize>,
     pub care: K,
-    /// Only read by a wrong variant: StartNextProcess is running.
+    /// Only read by wrong variants: StartNextProcess or an interrupt is running.
     pub starting: bool,
+    pub interrupting: bool,
 }
 
 impl<K: Care> Work<'_, K> {
@@ -46,7 +47,7 @@ impl<K: Care> Work<'_, K> {
     #[inline(always)]
     pub fn r_index_word(&self, base: u32, n: u32) -> Result<u32, Refusal> {
         let index = self.index(at_word(base, n))?;
-        if self.wrong(Mistake::StaleStart) && self.starting {
+        if self.stale(index) {
             return Ok(self.before(index));
         }
         Ok(self.memory[index])
@@ -86,6 +87,12 @@ impl<K: Care> Work<'_, K> {
         if self.wrong(Mistake::OnlyChangedWords) && self.memory[index] == x {
             return;
         }
+        if self.wrong(Mistake::FirstStoreWins) && self.is_kept(index) {
+            return;
+        }
+        if self.wrong(Mistake::MovedBytesWin) && self.moved.contains(&index) {
+            return;
+        }
         if !self.is_kept(index) || self.wrong(Mistake::WordSavedTwice) {
             self.kept.push((index as u32, self.memory[index]));
         }
@@ -100,8 +107,18 @@ impl<K: Care> Work<'_, K> {
             || self.kept[self.moved_kept.end..].iter().any(same)
     }
 
-    /// The value before the call, for the wrong variant that reads it.
-    fn before(&self, index: usize) -> u32 {
+    /// Wrong variants read the value before the call.
+    #[inline(always)]
+    fn stale(&self, index: usize) -> bool {
+        let moved = || self.moved.contains(&index);
+        (self.wrong(Mistake::StaleStart) && self.starting)
+            || (self.wrong(Mistake::StartMissesMovedBytes) && self.starting && moved())
+            || (self.wrong(Mistake::LoadsMissMovedBytes) && moved())
+            || (self.wrong(Mistake::StaleInterrupt) && self.interrupting)
+    }
+
+    /// The value before the call, for the wrong variants that read it.
+    pub fn before(&self, index: usize) -> u32 {
         let kept = self.kept.iter().find(|kept| kept.0 == index as u32);
         kept.map_or(self.memory[index], |kept| kept.1)
     }

@@ -88,6 +88,20 @@ mistakes! {
     SliceZeroedByEveryStart,
     /// StartNextProcess reads memory as before the step.
     StaleStart,
+    /// StartNextProcess sees single stores of the step, but not the bytes that it moved.
+    StartMissesMovedBytes,
+    /// Every load of the step misses the bytes that it moved.
+    LoadsMissMovedBytes,
+    /// An interrupt reads the process's Iptr.s as before the step.
+    StaleInterrupt,
+    /// A move reads its source as before the step.
+    StaleMoveSource,
+    /// Of two stores to one word the first wins.
+    FirstStoreWins,
+    /// Moved bytes win over later stores of the step.
+    MovedBytesWin,
+    /// Insertion reads the queue's front before its own store.
+    InsertReadsOldFront,
     GotoSnpFirst,
     PrefixActsOnGotoSnp,
     GotoSnpNotSaved,
@@ -117,6 +131,10 @@ mistakes! {
     WholeCarryWord,
     LongShiftLimit32,
     MoveBackwards,
+    /// A move goes by words, even where source and destination are one to three bytes apart.
+    CloseMoveByWords,
+    /// A move stores the whole of its last word.
+    MoveStoresWholeWords,
     MoveKeepsRegisters,
     FirstLeavesBack,
     OddFrontMasked,

@@ -158,6 +158,7 @@ impl<K: Care> Work<'_, K> {
     /// A high process comes while a low one is current. Status bits 2 to 6 stay (DECISIONS 20).
     fn interrupt(&mut self, descriptor: u32) -> Result<(), Refusal> {
         self.save_registers(self.regs[STATUS] & MOVE_BIT != 0)?;
+        self.interrupting = true;
         self.regs[WDESC] = descriptor;
         self.regs[STATUS] &= if self.wrong(Mistake::InterruptClearsSavedBits) {
             ERROR_FLAG | HALT_ON_ERROR

@@ -144,14 +144,25 @@ impl<K: Care> Work<'_, K> {
     fn insert_final_step(&mut self) -> Result<(), Refusal> {
         let queue = self.priority();
         let wptr = self.wptr();
+        let old_front = self.old_front(queue);
         self.w_index_word(self.regs[B], 0, wptr)?;
         self.w_index_word(wptr, TLINK_S, self.regs[C])?;
         self.w_index_word(wptr, IPTR_S, self.regs[IPTR])?;
         self.regs[B] = self.r_index_word(TIMER_BASE, queue as u32)?;
+        self.regs[B] = old_front.unwrap_or(self.regs[B]);
         self.regs[TNEXT[queue]] = self.r_index_word(self.regs[B], TIME_S)?;
         self.enable_queue(queue, true);
         self.set_goto_snp();
         Ok(())
+    }
+
+    /// A wrong variant keeps the front that stood before its own store, if there was one.
+    fn old_front(&self, queue: usize) -> Option<u32> {
+        if !self.wrong(Mistake::InsertReadsOldFront) {
+            return None;
+        }
+        let front = self.r_index_word(TIMER_BASE, queue as u32).ok()?;
+        (front != NOT_PROCESS).then_some(front)
     }
 
     /// B is `previous`, C `subsequent`. Off the end of the queue the walk leads outside

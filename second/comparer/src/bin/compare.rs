@@ -6,23 +6,26 @@ use std::process::ExitCode;
 
 use comparer::case::Call;
 use comparer::compare::{compare, Options, Report};
+use comparer::protocol::put_case;
 use comparer::runs::{self, Runner};
 use comparer::side::Side;
 
 const USAGE: &str = "\
-compare [--calls LIST] [--seq] [--first] PROGRAM_A PROGRAM_B SEED COUNT
+compare [--calls LIST] [--seq] [--first] [--save FILE] PROGRAM_A PROGRAM_B SEED COUNT
 compare --run PROGRAM_A PROGRAM_B SEED COUNT
 A program is a path, a name (beside compare, else Rattle's target/bin), rattle:PATH,
 second (inside compare) or wrong:NAME (a wrong variant).
 --calls LIST  only these calls: fresh,step,tick,take,give,event,undo,clear
 --seq         sequences of calls from fresh in place of random states
 --first       end after the first 2,000 cases with a difference
+--save FILE   write the first differing case to a file, in the batch protocol
 --run         runs of code from standard input, the printed lines compared";
 
 struct Arguments {
     programs: [String; 2],
     options: Options,
     run: bool,
+    save: Option<String>,
 }
 
 fn main() -> ExitCode {
@@ -46,13 +49,14 @@ fn main() -> ExitCode {
 fn arguments() -> Result<Arguments, String> {
     let mut places = Vec::new();
     let mut options = Options::new(0, 0);
-    let mut run = false;
+    let (mut run, mut save) = (false, None);
     let mut given = std::env::args().skip(1);
     while let Some(argument) = given.next() {
         match argument.as_str() {
             "--seq" => options.sequences = true,
             "--first" => options.stop = true,
             "--run" => run = true,
+            "--save" => save = Some(given.next().ok_or(USAGE)?),
             "--calls" => options.calls = calls(&given.next().ok_or(USAGE)?)?,
             flag if flag.starts_with("--") => return Err(USAGE.into()),
             _ => places.push(argument),
@@ -66,6 +70,7 @@ fn arguments() -> Result<Arguments, String> {
         programs,
         options,
         run,
+        save,
     })
 }
 
@@ -81,6 +86,11 @@ fn cases(arguments: &Arguments) -> Result<u64, String> {
     let report = compare(&mut left, &mut right, &arguments.options)?;
     for text in &report.shown {
         println!("{text}");
+    }
+    if let (Some(case), Some(file)) = (&report.first, &arguments.save) {
+        let mut bytes = Vec::new();
+        put_case(&mut bytes, case);
+        std::fs::write(file, bytes).map_err(|error| format!("{file}: {error}"))?;
     }
     println!("{a} against {b}: {}", summary(&report));
     Ok(report.different)

@@ -245,12 +245,20 @@ fn block(random: &mut Random, scene: &mut Scene) {
     let bytes = 4 * scene.size as u32;
     let few = random.below(40);
     scene.regs[A] = random.pick(&[few, few, few, few, few, few, few, 0, bytes, bytes + 1, any]);
-    scene.regs[C] = scene.inside(random);
+    scene.regs[C] = buffer(random, scene);
     scene.regs[B] = match random.below(10) {
         0..=3 => scene.regs[C].wrapping_add(random.below(13)).wrapping_sub(6),
         4 => scheduler_word(random, scene),
-        _ => scene.inside(random),
+        _ => buffer(random, scene),
     };
+}
+
+/// Where a message or block begins: anywhere, or a little before a word that means something.
+fn buffer(random: &mut Random, scene: &Scene) -> u32 {
+    if random.percent(50) {
+        return scene.inside(random);
+    }
+    scene.address(random).wrapping_sub(random.below(8))
 }
 
 fn channel_address(random: &mut Random, scene: &Scene) -> u32 {
@@ -269,9 +277,9 @@ fn channel_address(random: &mut Random, scene: &Scene) -> u32 {
 /// A message on a hard channel, or on a soft one where a partner waits or nobody does.
 fn communication(random: &mut Random, scene: &mut Scene, input: bool) {
     let channel = channel_address(random, scene);
-    scene.regs[A] = random.pick(&[0, 1, 2, 3, 4, 5, 9, 17]);
+    scene.regs[A] = random.pick(&[0, 1, 2, 3, 4, 5, 9, 17, 26]);
     scene.regs[B] = channel;
-    scene.regs[C] = scene.inside(random);
+    scene.regs[C] = buffer(random, scene);
     if channel.wrapping_sub(MIN_INT) / 4 < LINK_CHANS as u32 {
         return;
     }
@@ -280,7 +288,7 @@ fn communication(random: &mut Random, scene: &mut Scene, input: bool) {
         0..=2 => scene.put(channel, 0, NOT_PROCESS),
         _ => scene.put(channel, 0, partner),
     }
-    let buffer = scene.inside(random);
+    let buffer = buffer(random, scene);
     let state = random.pick(&[ENABLING, WAITING, WAITING, READY]);
     let alternative = !input && random.percent(50);
     scene.put(
