@@ -6,6 +6,7 @@ pub mod case;
 pub mod compare;
 pub mod explain;
 pub mod generate;
+pub mod history;
 pub mod names;
 pub mod process;
 pub mod program;

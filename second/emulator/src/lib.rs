@@ -23,6 +23,7 @@ pub mod registers;
 mod scheduling;
 mod step;
 mod timers;
+mod walk;
 mod words;
 
 pub use calls::{Emulator, MAX_JOURNAL, MAX_MEMORY, MIN_MEMORY};

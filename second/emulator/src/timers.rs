@@ -3,43 +3,9 @@
 use crate::memory::Work;
 use crate::mistakes::{Care, Mistake};
 use crate::registers::*;
+use crate::walk::Walk;
 use crate::words::{at_word, later};
 use crate::Refusal;
-
-/// Tells a walk that runs in a ring (DECISIONS 27): the next pointer depends on the last one alone,
-/// so a value that comes again comes for ever. The mark is set anew after 1, 2, 4, .. pointers, so
-/// that it falls into the ring at last and the walk meets it there.
-struct Walk {
-    mark: u32,
-    left: u64,
-    length: u64,
-    passed: u64,
-}
-
-impl Walk {
-    fn from(pointer: u32) -> Walk {
-        Walk {
-            mark: pointer,
-            left: 1,
-            length: 1,
-            passed: 0,
-        }
-    }
-
-    fn pass(&mut self, pointer: u32) -> Result<(), Refusal> {
-        if pointer == self.mark {
-            return Err(Refusal::Stop);
-        }
-        self.passed += 1;
-        self.left -= 1;
-        if self.left == 0 {
-            self.length *= 2;
-            self.left = self.length;
-            self.mark = pointer;
-        }
-        Ok(())
-    }
-}
 
 impl<K: Care> Work<'_, K> {
     fn clock(&self) -> u32 {
