@@ -95,10 +95,12 @@ impl Mood {
     /// A few sequences are long enough for a time slice; where no record fits, a few calls will do.
     fn new(random: &mut Random, journal: usize) -> Mood {
         let slice = random.percent(1);
-        let length = match () {
-            _ if journal < RECORD => 12,
-            _ if slice => 3_000,
-            _ => random.between(60, 400),
+        let length = if journal < RECORD {
+            12
+        } else if slice {
+            3_000
+        } else {
+            random.between(60, 400)
         };
         Mood {
             length,

@@ -1,4 +1,4 @@
-//! Document 000, 1.11: register manipulation, loops, and bytes and blocks in memory.
+//! Document 000, 1.11: register manipulation, loops and bytes in memory.
 
 use crate::memory::Work;
 use crate::mistakes::{Care, Mistake};
@@ -56,9 +56,5 @@ impl<K: Care> Work<'_, K> {
         self.w_index_byte(self.regs[A], 0, self.regs[B])?;
         self.regs[A] = self.regs[C];
         Ok(())
-    }
-
-    pub fn move_message(&mut self) -> Result<(), Refusal> {
-        self.block_move()
     }
 }

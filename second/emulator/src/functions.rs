@@ -79,7 +79,3 @@ impl<K: Care> Work<'_, K> {
         Ok(())
     }
 }
-
-fn below(words: u32) -> u32 {
-    words.wrapping_neg()
-}

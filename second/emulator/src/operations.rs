@@ -1,7 +1,7 @@
 //! Document 000, 1.11: the operations, with document 01's built list (81 codes, DECISIONS 1).
 
 use crate::memory::Work;
-use crate::mistakes::Care;
+use crate::mistakes::{Care, Mistake};
 use crate::registers::*;
 use crate::words::{machine, signed};
 use crate::Refusal;
@@ -96,7 +96,7 @@ impl<K: Care> Work<'_, K> {
             0x47 => self.enable_timer()?,
             0x48 => self.enable_channel()?,
             0x49 => self.enable_skip()?,
-            0x4A => self.move_message()?,
+            0x4A => self.block_move()?,
             0x4B => self.result(self.regs[B] | self.regs[A]),
             0x4C => self.check_single(),
             0x4D => self.check_count_from_1(),
@@ -129,7 +129,7 @@ impl<K: Care> Work<'_, K> {
     }
 
     fn greater(&self, left: u32, right: u32) -> bool {
-        if self.wrong(crate::Mistake::UnsignedGt) {
+        if self.wrong(Mistake::UnsignedGt) {
             return left > right;
         }
         signed(left) > signed(right)

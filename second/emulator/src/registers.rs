@@ -76,7 +76,8 @@ pub const POINTER_S: u32 = below(3);
 pub const TLINK_S: u32 = below(4);
 pub const TIME_S: u32 = below(5);
 
-const fn below(words: u32) -> u32 {
+/// A word offset below a pointer.
+pub const fn below(words: u32) -> u32 {
     words.wrapping_neg()
 }
 

@@ -25,19 +25,23 @@ impl<K: Care> Work<'_, K> {
     }
 
     fn time_set(&self) -> u32 {
-        match () {
-            _ if self.wrong(Mistake::TimeMarksExchanged) => TIME_NOT_SET,
-            _ if self.wrong(Mistake::TimeMarksOf001) => u32::MAX - 1,
-            _ => TIME_SET,
+        if self.wrong(Mistake::TimeMarksExchanged) {
+            return TIME_NOT_SET;
         }
+        if self.wrong(Mistake::TimeMarksOf001) {
+            return u32::MAX - 1;
+        }
+        TIME_SET
     }
 
     fn time_not_set(&self) -> u32 {
-        match () {
-            _ if self.wrong(Mistake::TimeMarksExchanged) => TIME_SET,
-            _ if self.wrong(Mistake::TimeMarksOf001) => u32::MAX,
-            _ => TIME_NOT_SET,
+        if self.wrong(Mistake::TimeMarksExchanged) {
+            return TIME_SET;
         }
+        if self.wrong(Mistake::TimeMarksOf001) {
+            return u32::MAX;
+        }
+        TIME_NOT_SET
     }
 
     pub fn handle_timer_request(&mut self, queue: usize) -> Result<(), Refusal> {

@@ -6,9 +6,16 @@ use super::scene::Scene;
 use crate::names::{code_of, OPERATIONS};
 use crate::random::Random;
 
-const STL: u32 = 13;
-const LDC: u32 = 4;
+// Direct functions that want operands of their own.
 const J: u32 = 0;
+const LDNL: u32 = 3;
+const LDC: u32 = 4;
+const ADC: u32 = 8;
+const CJ: u32 = 10;
+const EQC: u32 = 12;
+const STL: u32 = 13;
+const STNL: u32 = 14;
+const OPR: u32 = 15;
 
 /// Operations with many branches, drawn more often than the rest.
 const BUSY: [&str; 22] = [
@@ -29,7 +36,7 @@ pub fn prepare_step(random: &mut Random, scene: &mut Scene) {
             if random.percent(80) {
                 operands(random, scene, name);
             }
-            place(random, scene, 15, code_of(name));
+            place(random, scene, OPR, code_of(name));
         }
     }
 }
@@ -68,7 +75,7 @@ fn timer_request(random: &mut Random, scene: &mut Scene) {
 }
 
 fn function(random: &mut Random, scene: &mut Scene) {
-    let function = random.below(15);
+    let function = random.below(OPR);
     let near = random.below(16).wrapping_sub(6);
     let any = random.word();
     let mut operand = match function {
@@ -80,15 +87,15 @@ fn function(random: &mut Random, scene: &mut Scene) {
     if function == STL && random.percent(30) {
         operand = scheduler_word(random, scene).wrapping_sub(scene.regs[WDESC] & !1) / 4;
     }
-    if function == 8 || function == 12 {
+    if function == ADC || function == EQC {
         scene.regs[A] = edge(random);
         let same = scene.regs[A];
         operand = random.pick(&[near, any, same]);
     }
-    if (function == 3 || function == 14) && random.percent(85) {
+    if (function == LDNL || function == STNL) && random.percent(85) {
         scene.regs[A] = scene.address(random);
     }
-    if function == 10 {
+    if function == CJ {
         scene.regs[A] = random.below(2);
     }
     place(random, scene, function, operand);
@@ -110,7 +117,7 @@ fn unlisted(random: &mut Random, scene: &mut Scene) {
     let any = random.word();
     let above = random.between(0x5A, 0x200);
     let code = random.pick(&[0x11, 0x14, 0x23, 0x28, 0x2D, 0x63, 0x19B, above, above, any]);
-    place(random, scene, 15, code);
+    place(random, scene, OPR, code);
 }
 
 /// Puts the last byte of an instruction at Iptr and the rest of its operand into Oreg.
