@@ -47,7 +47,8 @@ impl<K: Care> Work<'_, K> {
 
     /// The quotient or remainder has no value: A keeps (DECISIONS 8).
     fn cannot_divide(&self) -> bool {
-        (self.regs[B] == MIN_INT && self.regs[A] == u32::MAX) || self.regs[A] == 0
+        let too_large = self.regs[B] == MIN_INT && self.regs[A] == u32::MAX;
+        (too_large && !self.wrong(Mistake::LargestQuotientUnchecked)) || self.regs[A] == 0
     }
 
     pub fn divide(&mut self) {

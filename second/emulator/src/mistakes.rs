@@ -121,6 +121,8 @@ mistakes! {
     SliceUnasked,
     LendTestsBeforeWrap,
     DivRoundsDown,
+    /// #80000000 divided by -1 gives no error.
+    LargestQuotientUnchecked,
     RemNeverNegative,
     SignedSubscript,
     CountCheckedAsSubscript,

@@ -173,6 +173,7 @@ fn operands(random: &mut Random, scene: &mut Scene, name: &str) {
         "runp" | "gajw" => scene.regs[A] = scene.descriptor(random),
         "shl" | "shr" => shift(random, scene, 32),
         "lshl" | "lshr" => shift(random, scene, 64),
+        "div" | "rem" => division(random, scene),
         "ldiv" => long_division(random, scene),
         "lsum" | "ldiff" | "ladd" | "lsub" => carry(random, scene),
         "norm" => normal(random, scene),
@@ -218,6 +219,19 @@ fn shift(random: &mut Random, scene: &mut Scene, bits: u32) {
     };
     scene.regs[B] = random.word();
     scene.regs[C] = random.word();
+}
+
+/// Often a division that has no result.
+fn division(random: &mut Random, scene: &mut Scene) {
+    arithmetic(random, scene);
+    match random.below(6) {
+        0 => scene.regs[A] = 0,
+        1 => {
+            scene.regs[A] = random.pick(&[u32::MAX, 1]);
+            scene.regs[B] = random.pick(&[MIN_INT, MIN_INT, MIN_INT + 1]);
+        }
+        _ => {}
+    }
 }
 
 fn long_division(random: &mut Random, scene: &mut Scene) {
