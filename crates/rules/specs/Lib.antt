@@ -14,3 +14,4 @@ pub mod Operations
 pub mod Step
 pub mod Journal
 pub mod Calls
+pub mod Starred
