@@ -6,3 +6,5 @@ pub mod FineLinks
 pub mod FineChannels
 pub mod FineOperations
 pub mod FineStep
+pub mod Stores
+pub mod Touched
