@@ -8,3 +8,4 @@ pub mod FineOperations
 pub mod FineStep
 pub mod Stores
 pub mod Touched
+pub mod Calls
