@@ -9,3 +9,4 @@ pub mod FineStep
 pub mod Stores
 pub mod Touched
 pub mod Calls
+pub mod Unique
