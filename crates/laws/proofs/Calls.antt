@@ -3,20 +3,20 @@
 use mathlib.Core.Path.{_≡_, refl, _∙_}
 use mathlib.Core.Bool.{Bool, true, false, _||_}
 use mathlib.Core.List.{List, [], _∷_}
-use Prim.Native.Nat.{ℕ, zero, suc, _+_, _-_, _*_, _≤_, _<_}
+use Prim.Native.Nat.{ℕ, zero, suc, _+_, _-_, _*_, _≤_}
 use native.Mathlib.Omega.{arith}
-use borrow.Author.Tests.{ltb-true, ltb-false}
+use borrow.Author.Tests.{ltb-false}
 use lib.Dec.{ltb}
-use lib.ListN.{length, drop, set, replicate, length-set, length-drop, length-replicate}
+use lib.ListN.{length, drop, set, length-set, length-drop}
 use lib.Seq.{length-sets, length-take-le}
-use Rattle.rules.specs.Tests.{pick, ifLt, ifEq}
+use Rattle.rules.specs.Tests.{pick, ifLt}
 use Rattle.rules.specs.Registers.{registers}
-use Rattle.rules.specs.Memory.{stores, touched}
-use Rattle.rules.specs.Work.{Work, begin}
+use Rattle.rules.specs.Memory.{touched}
+use Rattle.rules.specs.Work.{Work}
 use Rattle.rules.specs.Journal.{recordLength, recordOf, frameBad, lastPairs, lastStart, lastRegs, pairsAt, writeBack, strays}
-use Rattle.rules.specs.Calls.{Outcome, refused, machineOf, sizeBad, recorded, settled, checked, notOutput, notInput, step, tick, take, give, event, undone, undoLast, undo, clear, freshRegs, freshMemory, freshWord, codeBad, noMachine, fresh}
+use Rattle.rules.specs.Calls.{Outcome, refused, machineOf, sizeBad, recorded, settled, checked, step, tick, take, give, event, undone, undoLast, undo, clear, freshRegs, freshMemory, codeBad, noMachine, fresh}
 use Rattle.rules.specs.declared.Machine.{Machine}
-use Rattle.rules.proofs.Tests.{on-pick, on-lt, on-eq, by-bool, cases-lt, cases-eq, yes-lt, no-lt}
+use Rattle.rules.proofs.Tests.{on-pick, on-lt, on-eq}
 use Rattle.laws.specs.Calls.{Kept, Refusing, Unwritten}
 use Rattle.laws.proofs.Fine.{Fine, fine-begin}
 use Rattle.laws.proofs.FineLinks.{fine-tick, fine-take, fine-give, fine-event}

@@ -1,17 +1,15 @@
 -- Stores and moves keep the length of memory, and a word that none of them touches. Assumes nothing.
-use mathlib.Core.Path.{_≡_, refl, sym, ap, _∙_}
+use mathlib.Core.Path.{_≡_, refl, sym, _∙_}
 use mathlib.Core.Bool.{Bool, true, false, _&&_}
 use mathlib.Core.List.{List, [], _∷_, _++_}
 use Prim.Native.Nat.{ℕ, zero, suc, _+_, _/_, _%_}
-use native.Mathlib.Omega.{arith}
 use borrow.Author.Tests.{eqb-false}
 use lib.Dec.{eqb}
-use lib.ListN.{length, getD, set, length-set}
+use lib.ListN.{length, getD, length-set}
 use lib.Seq.{getD-set-other}
 use Rattle.rules.specs.Tests.{pick}
 use Rattle.rules.specs.Words.{withByte}
 use Rattle.rules.specs.Memory.{Store, word, bytes, byteIn, setByteIn, moved, within, storing, stores, covers, touches, hit}
-use Rattle.rules.proofs.Tests.{by-bool}
 
 -- ---- lengths
 

@@ -1,9 +1,8 @@
 -- The words that a call's stores touch: below the size, rising, each once; memory outside them is as before; and so the length of a record.
 -- For any stores, moves among them. Assumes nothing.
-use mathlib.Core.Path.{_≡_, refl, sym, ap, _∙_}
+use mathlib.Core.Path.{_≡_, refl, sym, _∙_}
 use mathlib.Core.Bool.{Bool, true, false}
-use mathlib.Core.Logic.{_≢_}
-use mathlib.Core.List.{List, [], _∷_, _++_}
+use mathlib.Core.List.{List, [], _∷_}
 use Prim.Native.Nat.{ℕ, zero, suc, _+_, _*_, _≤_, _<_}
 use native.Mathlib.Nat.{le-refl}
 use native.Mathlib.Decide.{ℕ-discrete, decLt}
@@ -12,7 +11,7 @@ use lib.ListN.{length, getD, length-append, List·getD-eq-default}
 use Rattle.rules.specs.Tests.{pick}
 use Rattle.rules.specs.Registers.{registers}
 use Rattle.rules.specs.Memory.{Store, stores, hit, touchedFrom, touched}
-use Rattle.rules.specs.Journal.{recordLength, lastWord, olds, recordOf}
+use Rattle.rules.specs.Journal.{recordLength, olds, recordOf}
 use Rattle.laws.specs.Lists.{Off, NoDup, Below, Rises}
 use Rattle.laws.proofs.Stores.{length-stores, stores-keep}
 

@@ -10,7 +10,6 @@ use lib.ListN.{length}
 use Rattle.rules.specs.Tests.{pick, look}
 use Rattle.rules.specs.Calls.{numberOf, Outcome, outcomeOf}
 use Rattle.rules.specs.declared.Reply.{Reply}
-use Rattle.rules.specs.declared.Machine.{Machine}
 use Rattle.rules.specs.declared.Answer.{Answer}
 use Rattle.rules.specs.declared.Answer.the-variants.{Done, Size, CodeSize, BadChannel, JournalBad, NothingToUndo, Halted, Idle, NotReady, Unlisted, Outside, Stop, JournalFull}
 use Rattle.laws.specs.Answers.{answers, answerOf}

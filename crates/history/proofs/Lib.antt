@@ -1,0 +1,6 @@
+pub mod Invariant
+pub mod History
+pub mod Records
+pub mod Sound
+pub mod Calls
+pub mod T414
