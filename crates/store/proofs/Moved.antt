@@ -11,7 +11,7 @@ use Rattle.rules.specs.Tests.{ifLt}
 use Rattle.rules.specs.Words.{withByte}
 use Rattle.rules.specs.Memory.{byteIn, setByteIn, moved}
 use Rattle.rules.proofs.Tests.{yes-lt, no-lt}
-use Rattle.store.specs.View.{cameFrom}
+use Rattle.store.specs.Places.{cameFrom}
 use Rattle.store.proofs.Bytes.{byte-in-lt, set-byte-length, byte-same, byte-other, with-small}
 
 pub moved-length : (n : ℕ) (m : List ℕ) (s d : ℕ) → length (moved m s d n) ≡ length m

@@ -1,9 +1,8 @@
 -- What a plan stands for, and what its functions keep.
-use Prim.Native.Nat.{ℕ, zero, suc, _+_, _-_, _%_, _≤_}
+use Prim.Native.Nat.{ℕ, zero, suc, _+_, _≤_}
 use mathlib.Core.Path.{_≡_}
 use mathlib.Core.List.{List, [], _∷_, _++_}
 use lib.ListN.{take, drop}
-use Rattle.rules.specs.Tests.{ifLt}
 use Rattle.rules.specs.Memory.{Store, word, bytes}
 use Rattle.rules.specs.Work.{Work}
 use Rattle.store.specs.declared.Plan.{Plan}
@@ -45,7 +44,3 @@ Grown k w r = (r .cut ≡ w .cut) × (r .count ≡ w .count) × (w .n ≤ r .n) 
 -- r is w with at most k single stores more, and perhaps a move
 abbrev pub Ended : ℕ → Plan → Plan → Type 0
 Ended k w r = (r .cut ≤ r .n) × (r .n ≤ w .n + k)
-
--- the place from which the byte at a comes, in a move of n bytes from s to d: a move up on itself repeats its first bytes
-unfoldable pub cameFrom : ℕ → ℕ → ℕ → ℕ → ℕ
-cameFrom s d n a = ifLt a d a (ifLt a (d + n) (ifLt s d (s + (a - d) % (d - s)) (s + (a - d))) a)

@@ -26,9 +26,11 @@ use rules::Both;
 use rules::Core;
 use rules::REGISTERS;
 use rules::System;
+use words::at_byte;
 use words::at_word;
 use words::byte_of;
 use words::index_of;
+use words::offset;
 use words::selector;
 use words::with_byte;
 ghost use mathlib.Core.Path.{_≡_};
@@ -36,10 +38,11 @@ ghost use mathlib.Core.List.{List};
 ghost use Prim.Native.Nat.{ℕ, _+_, _*_, _<_, _≤_};
 ghost use lib.ListN.{length, getD, take};
 ghost use lib.Seq.{slice};
-ghost use Rattle.rules.specs.Memory.{word, byteIn, moved, stores};
+ghost use Rattle.rules.specs.Memory.{word, bytes, byteIn, moved, stores};
 ghost use Rattle.rules.specs.Work as rules;
 ghost use Rattle.rules.specs.Registers as registers;
-ghost use Rattle.store.specs.View.{singles, moves, view, Room, Grown, Ended, cameFrom};
+ghost use Rattle.store.specs.View.{singles, moves, view, Room, Grown, Ended};
+ghost use Rattle.store.specs.Places as places;
 
 // The single stores are the first n of ix and vs. The first cut of them come before the move of count bytes from source to target, which are
 // counted in bytes from the start of memory; nothing moves where count is 0.
@@ -55,6 +58,12 @@ pub struct Plan {
     pub answer: u32,
     pub kind: u32,
     pub address: u32,
+}
+
+// The first access of a move that is outside memory; kind 0 where there is none.
+struct First {
+    kind: u32,
+    address: u32,
 }
 
 // Nothing done yet.
@@ -241,7 +250,7 @@ fn word_before(w: Plan, mem: &[u32], i: u32) -> u32
 // The place from which the byte at a comes.
 fn came_from(s: usize, d: usize, n: usize, a: usize) -> usize
     requires { ⌜ (s + n < 17179869184) × (d + n < 17179869184) ⌝ }
-    ensures { λ r. ⌜ r ≡ cameFrom s d n a ⌝ }
+    ensures { λ r. ⌜ r ≡ places.cameFrom s d n a ⌝ }
 {
     if a < d {
         return a;
@@ -416,4 +425,82 @@ pub fn w_index_word(w: Plan, mem: &[u32], base: u32, n: u32, v: u32) -> Plan
     ensures { λ r. ⌜ (view r ≡ rules.wIndexWord (now (mem .entry)) base n v (view w)) × Grown 1 w r ⌝ }
 {
     store_word(w, mem, at_word(base, n), v)
+}
+
+// ---- the block move
+
+// How many of the n bytes from an address come before the first that is outside memory.
+fn reach(mem: &[u32], a: u32, n: u32) -> u32
+    ensures { λ r. ⌜ r ≡ places.reach (length (now (mem .entry))) a n ⌝ }
+{
+    // So much memory has every address.
+    if 0x4000_0000 <= mem.len() {
+        return n;
+    }
+    let at = offset(a) as usize;
+    let end = 4 * mem.len();
+    if end <= at {
+        return 0;
+    }
+    let room = end - at;
+    if n as usize <= room {
+        return n;
+    }
+    room as u32
+}
+
+// Bytes go in rising order, each loaded just before it is stored; so at the same byte the load is first.
+fn move_outside(mem: &[u32], source: u32, destination: u32, n: u32) -> First
+    ensures { λ r. ⌜ (r .kind, r .address) ≡ rules.moveOutside (now (mem .entry)) source destination n ⌝ }
+{
+    let s = reach(mem, source, n);
+    let d = reach(mem, destination, n);
+    if d < s {
+        return First {
+            kind: KIND_STORE,
+            address: at_byte(destination, d),
+        };
+    }
+    if s < n {
+        return First {
+            kind: KIND_LOAD,
+            address: at_byte(source, s),
+        };
+    }
+    First {
+        kind: 0,
+        address: 0,
+    }
+}
+
+// The move after the stores so far, where nothing is refused.
+fn append_move(w: Plan, s: u32, d: u32, n: u32) -> Plan
+    requires { ⌜ (0 < n) × Room 0 w × (w .count ≡ 0) ⌝ }
+    ensures { λ r. ⌜ (view r ≡ rules.append (bytes s d n) (view w)) × Ended 0 w r ⌝ }
+{
+    if w.answer == 0 {
+        let before = w.n;
+        let mut t = w;
+        t.cut = before;
+        t.source = s;
+        t.target = d;
+        t.count = n;
+        return t;
+    }
+    w
+}
+
+// All bytes of a move, or the refusal of its first access outside memory; count 0 moves nothing.
+pub fn transfer(w: Plan, mem: &[u32], source: u32, destination: u32, n: u32) -> Plan
+    requires { ⌜ Room 0 w × (w .count ≡ 0) ⌝ }
+    ensures { λ r. ⌜ (view r ≡ rules.transfer (now (mem .entry)) source destination n (view w)) × Ended 0 w r ⌝ }
+{
+    if n == 0 {
+        return w;
+    }
+    let first = move_outside(mem, source, destination, n);
+    if first.kind == 0 {
+        return append_move(w, offset(source), offset(destination), n);
+    }
+    refuse_at(w, OUTSIDE, first.kind, first.address)
 }

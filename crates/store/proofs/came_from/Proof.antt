@@ -7,7 +7,7 @@ use Rattle.rules.specs.Work.{put, raise, lower, gotoSNP, putCore, putSystem, pu
 use Rattle.rules.specs.Registers.{coreOf, withCore, systemOf, withSystem}
 use Rattle.store.specs.View.{logged}
 use native.Mathlib.Nat.{mod-lt}
-use Rattle.store.specs.View.{cameFrom}
+use Rattle.store.specs.Places.{cameFrom}
 use borrow.Author.Needs.{needs}
 use Rattle.store.proofs.came_from.Statement.{statement}
 use Rattle.store.proofs.came_from.Tie as tie
