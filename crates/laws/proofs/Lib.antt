@@ -10,3 +10,9 @@ pub mod Stores
 pub mod Touched
 pub mod Calls
 pub mod Unique
+pub mod Pigeon
+pub mod Ring
+pub mod Calm
+pub mod InsertRing
+pub mod DeleteRing
+pub mod Steps
