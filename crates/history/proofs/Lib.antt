@@ -4,3 +4,4 @@ pub mod Records
 pub mod Sound
 pub mod Calls
 pub mod T414
+pub mod Examples
