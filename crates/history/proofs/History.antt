@@ -8,7 +8,7 @@ use native.Mathlib.Omega.{arith}
 use lib.ListN.{length, take, drop, replicate}
 use lib.Seq.{drop-drop, drop-nil}
 use Rattle.history.specs.Machine.{Machine, State, Act, call, undo, Answer, no-way, done, stack, inOrder, perform, run, standing, replay, words, empty, Laws}
-use Rattle.history.proofs.Invariant.{Inv, inv-empty, inv-run, inv-undos, inv-again}
+use Rattle.history.proofs.Invariant.{Inv, inv-empty, inv-run, inv-undos, inv-again, standing-again}
 
 -- What shows of a state: the core, the depth, how many journal words are in use, and these words; not what lies in the journal past them.
 pub record Seen (C : Type 0) : Type 0 where
@@ -53,6 +53,10 @@ module _ (M : Machine) (Ok : M .Core → Type 0) (L : Laws M Ok) (x : M .Core) (
   history =
       history-seen
       ∙ sym (seen-inv M (length j) x _ left (inv-again M Ok L (length j) x o left (inv-end .stood) (empty M x j) (inv-empty M (length j) x j refl)))
+
+  -- in which they are all accepted
+  pub history-stands : standing M (inOrder left) (empty M x j) [] ≡ left
+  history-stands = standing-again M Ok L (length j) x o left (inv-end .stood) (empty M x j) (inv-empty M (length j) x j refl)
 
   -- THEOREM B: n undos are as if the last n standing calls had not been made
   pub undone : (n : ℕ) → n ≤ end .depth → seen (run M (replicate n undo) end) ≡ made M x (drop n left)

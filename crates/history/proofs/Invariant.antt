@@ -10,7 +10,7 @@ use borrow.Author.Tests.{ltb-false, le-ltb, eq-eqb, ne-eqb}
 use lib.Dec.{ltb, eqb}
 use lib.ListN.{length, take, drop, replicate, length-append}
 use lib.Seq.{sets, sets-eq, length-sets, take-at, take-append-seam, length-take-le, take-take}
-use Rattle.history.specs.Machine.{Effect, refused, accepted, Machine, State, Act, call, undo, no-way, done, Done}
+use Rattle.history.specs.Machine.{Effect, refused, accepted, Machine, State, Act, call, undo, Answer, no-way, done, Done}
 use Rattle.history.specs.Machine.{push, settle, undoing, guarded, act, after, recorded, stack, inOrder, perform, run, standing, replay, words, empty, Laws}
 
 -- the words before i stay, and those of w come after them
@@ -232,18 +232,19 @@ module _ (M : Machine) (Ok : M .Core → Type 0) (L : Laws M Ok) (J : ℕ) (x : 
   redo [] s = s
   redo (c ∷ k) s = perform M (call c) (redo k s) .state
 
-  perform-again : (s : State (M .Core)) (c : M .Call) (k : List (M .Call)) → Inv M J x s k → Accepted M J x c k → Inv M J x (perform M (call c) s .state) (c ∷ k)
+  perform-again : (s : State (M .Core)) (c : M .Call) (k : List (M .Call)) → Inv M J x s k → (a : Accepted M J x c k)
+      → (perform M (call c) s .answer ≡ done (a .byte)) × Inv M J x (perform M (call c) s .state) (c ∷ k)
   unfolding perform act
   perform-again s c k i a =
       let g : M .guard (call c) (s .core) (length (s .journal)) (s .depth) (s .used) ≡ none = rw (i .core, i .size, i .depth, i .used) (a .free) in
       let e : M .next c (s .core) ≡ accepted (a .core) (a .record-words) (a .byte) = rw (i .core) (a .does) in
       let f : s .used + length (a .record-words) ≤ length (s .journal) = omega (arith, i .used, i .size, a .fits) in
-      rw (g, e, le-ltb (length (s .journal)) (s .used + length (a .record-words)) f) (inv-push M J x s k c (a .core) (a .record-words) (a .byte) i g e f)
+      rw (g, e, le-ltb (length (s .journal)) (s .used + length (a .record-words)) f) (refl, inv-push M J x s k c (a .core) (a .record-words) (a .byte) i g e f)
 
   inv-redo : (k : List (M .Call)) → Stood M J x k → (s : State (M .Core)) → Inv M J x s [] → Inv M J x (redo k s) k
   unfolding redo Stood
   inv-redo [] st s i = i
-  inv-redo (c ∷ k) st s i = perform-again (redo k s) c k (inv-redo k (st .1) s i) (st .0)
+  inv-redo (c ∷ k) st s i = perform-again (redo k s) c k (inv-redo k (st .1) s i) (st .0) .1
 
   run-redo : (k l : List (M .Call)) (s : State (M .Core)) → run M (map call (reverseAux k l)) s ≡ run M (map call l) (redo k s)
   unfolding redo run
@@ -253,3 +254,16 @@ module _ (M : Machine) (Ok : M .Core → Type 0) (L : Laws M Ok) (J : ℕ) (x : 
   pub inv-again : (k : List (M .Call)) → Stood M J x k → (s : State (M .Core)) → Inv M J x s [] → Inv M J x (run M (inOrder k) s) k
   unfolding run
   inv-again k st s i = rw (run-redo k [] s) (inv-redo k st s i)
+
+  standing-redo : (k l : List (M .Call)) → Stood M J x k → (s : State (M .Core)) → Inv M J x s []
+      → standing M (map call (reverseAux k l)) s [] ≡ standing M (map call l) (redo k s) k
+  unfolding redo Stood standing
+  standing-redo [] l st s i = refl
+  standing-redo (c ∷ k) l st s i =
+      standing-redo k (c ∷ l) (st .1) s i
+      ∙ ap (λ (r : Answer). standing M (map call l) (redo (c ∷ k) s) (stack (call c) r k)) (perform-again (redo k s) c k (inv-redo k (st .1) s i) (st .0) .0)
+
+  -- they all stand again
+  pub standing-again : (k : List (M .Call)) → Stood M J x k → (s : State (M .Core)) → Inv M J x s [] → standing M (inOrder k) s [] ≡ k
+  unfolding standing
+  standing-again k st s i = standing-redo k [] st s i

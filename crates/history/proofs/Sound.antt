@@ -59,11 +59,14 @@ unrecord-last : (x : Plain) (k : Work) → Ok x → (front j : List ℕ) → tak
     → unrecord (record { regs = k .regs; mem = stores (x .mem) (k .stored) }) (length front + length (entry x k)) j ≡ some (x, length front)
 unfolding unrecord
 unrecord-last x k h front j t =
-    let fits : recordLength (length (places x k)) ≤ length front + length (entry x k) = omega (arith, length-record (x .mem) (x .regs) (places x k) h) in
-    rw
-    (last-pairs front j (x .mem) (x .regs) (places x k) h t, last-start front j (x .mem) (x .regs) (places x k) h t, last-regs front j (x .mem) (x .regs) (places x k) h t, last-read front j (x .mem) (x .regs) (places x k) h t, no-lt fits)
-    (rw
-    (length-stores (x .mem) (k .stored), strays-none (length (x .mem)) (x .mem) (places x k) (touched-below (length (x .mem)) (k .stored)), written-back (places x k) (x .mem) (stores (x .mem) (k .stored)) (length-stores (x .mem) (k .stored)) (outside-touched (x .mem) (k .stored))))
+    let mem = x .mem in
+    let regs = x .regs in
+    let ks = places x k in
+    let fits : recordLength (length ks) ≤ length front + length (entry x k) = omega (arith, length-record mem regs ks h) in
+    let inside = strays-none (length mem) mem ks (touched-below (length mem) (k .stored)) in
+    let back = written-back ks mem (stores mem (k .stored)) (length-stores mem (k .stored)) (outside-touched mem (k .stored)) in
+    rw (last-pairs front j mem regs ks h t, last-start front j mem regs ks h t, last-regs front j mem regs ks h t, last-read front j mem regs ks h t)
+    (rw (no-lt fits, length-stores mem (k .stored), inside, back))
 
 -- ---- the checks before an undo
 

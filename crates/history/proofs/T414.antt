@@ -57,6 +57,14 @@ module _ (s : Whole) (i : Emptied s) (acts : List (Act Call)) where
       ∙ ap (λ (k : List Call). shownOf (seen (generic.run t414 (inOrder k) (generic.empty t414 start (s .journal))))) (standing-is acts)
       ∙ ap (λ (t : State Plain). shownOf (seen t)) (run-is (inOrder left))
 
+  -- which are then all accepted
+  pub history-stands : standing (inOrder left) s [] ≡ left
+  history-stands =
+      sym (standing-is (inOrder left))
+      ∙ ap (λ (k : List Call). generic.standing t414 (inOrder k) (generic.empty t414 start (s .journal)) []) (sym (standing-is acts))
+      ∙ any.history-stands t414 Ok sound start (i .count) (s .journal) acts
+      ∙ standing-is acts
+
   -- registers and memory, without a journal: each call's work on what the calls before it left
   pub history-work : view (run acts s) .core ≡ generic.replay t414 start left
   history-work =
@@ -111,10 +119,23 @@ pub from-clear : (m : Machine) (mem j : List ℕ) → length (m .regs) ≡ regis
 unfolding clear
 from-clear m mem j h e = record { count = kept-clear m mem j h .count; depth = rw e; used = rw e }
 
--- 01's sentence, from fresh
-pub history-from-fresh : (code mem j : List ℕ) (acts : List (Act Call))
-    → shown (run acts (after (fresh code mem j))) ≡ shown (run (inOrder (standing acts (after (fresh code mem j)) [])) (after (fresh code mem j)))
-history-from-fresh code mem j acts = history (after (fresh code mem j)) (from-fresh code mem j) acts
+-- ---- 01's sentence
+
+module _ (code mem j : List ℕ) (acts : List (Act Call)) where
+  -- what fresh leaves
+  abbrev pub begun : Whole
+  begun = after (fresh code mem j)
+
+  -- the state equals what the accepted calls that are not undone give, in order
+  pub fresh-history : shown (run acts begun) ≡ shown (run (inOrder (standing acts begun [])) begun)
+  fresh-history = history begun (from-fresh code mem j) acts
+
+  -- undoing n calls gives back registers, memory, depth and used as before them
+  pub fresh-undone : (n : ℕ) → n ≤ run acts begun .machine .depth
+      → (then : List (Act Call)) × (rest : List (Act Call)) × (acts ≡ then ++ rest)
+      × (shown (run (replicate n undo) (run acts begun)) ≡ shown (run then begun))
+      × (standing then begun [] ≡ drop n (standing acts begun []))
+  fresh-undone n h = undone begun (from-fresh code mem j) acts n h
 
 -- ---- the law of undo: from any machine, with any journal
 
