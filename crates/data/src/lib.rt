@@ -4,8 +4,10 @@ pub mod stack; // what the evaluation stack and the pointers do
 pub mod locals; // ldl, stl, ldnl, stnl
 pub mod calls; // call, ret, altend
 pub mod bytes; // lb, sb
+pub mod blocks; // move
 pub mod queues; // saveh, savel
 
+pub use blocks::block_move;
 pub use bytes::lb;
 pub use bytes::sb;
 pub use calls::altend;

@@ -25,4 +25,4 @@ returns c = (rw (← c .before .store-byte .ensures .0) (c .put .ensures .0), se
 pub sb-spec : {M : Type 1} → statement M
 sb-spec =
     tie.close (tie.spec element-copy-out-c element-copy-out-store-byte element-copy-out-store-byte-2 store-byte-requires
-        put-requires returns)
+    put-requires returns)

@@ -20,9 +20,11 @@ jump-by-requires c κs = search needs
 
 returns : tie.Need-returns
 unfolding altend
-returns c =
-    (rw (← c .before .before .before .at-word .ensures, ← c .before .before .word-at .ensures, ← c .before .load-word .ensures .0)
-      (c .jump-by .ensures .0), search needs)
+returns c = (
+  rw (← c .before .before .before .at-word .ensures, ← c .before .before .word-at .ensures, ← c .before .load-word .ensures .0)
+      (c .jump-by .ensures .0),
+  search needs,
+)
 
 pub altend-spec : {M : Type 1} → statement M
 altend-spec =

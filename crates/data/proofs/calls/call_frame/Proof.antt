@@ -32,13 +32,18 @@ w-index-word-requires-4 c κs = search needs
 
 returns : tie.Need-returns
 unfolding callFrame
-returns c =
-    (rw (← c .before .before .before .before .before .before .w-index-word .ensures .0,
-      ← c .before .before .before .before .w-index-word2 .ensures .0, ← c .before .before .w-index-word3 .ensures .0)
-      (c .w-index-word4 .ensures .0), search needs)
+returns c = (
+  rw (
+    ← c .before .before .before .before .before .before .w-index-word .ensures .0,
+    ← c .before .before .before .before .w-index-word2 .ensures .0,
+    ← c .before .before .w-index-word3 .ensures .0,
+  )
+      (c .w-index-word4 .ensures .0),
+  search needs,
+)
 
 pub call-frame-spec : {M : Type 1} → statement M
 call-frame-spec =
     tie.close (tie.spec element-copy-out-wptr element-copy-out-w-index-word w-index-word-requires element-copy-out-w-index-word-2
-        w-index-word-requires-2 element-copy-out-w-index-word-3 w-index-word-requires-3 element-copy-out-w-index-word-4
-        w-index-word-requires-4 returns)
+    w-index-word-requires-2 element-copy-out-w-index-word-3 w-index-word-requires-3 element-copy-out-w-index-word-4
+    w-index-word-requires-4 returns)

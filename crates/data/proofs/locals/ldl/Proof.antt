@@ -22,4 +22,4 @@ returns c = (rw (← c .before .before .before .pushed .ensures .0) (c .r-index-
 pub ldl-spec : {M : Type 1} → statement M
 ldl-spec =
     tie.close (tie.spec pushed-requires element-copy-out-r-index-word element-copy-out-r-index-word-2 r-index-word-requires
-        returns)
+    returns)

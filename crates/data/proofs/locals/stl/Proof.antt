@@ -25,4 +25,4 @@ returns c = (rw (← c .before .w-index-word .ensures .0) (c .popped .ensures .0
 pub stl-spec : {M : Type 1} → statement M
 stl-spec =
     tie.close (tie.spec element-copy-out-wptr element-copy-out-w-index-word element-copy-out-w-index-word-2 w-index-word-requires
-        popped-requires returns)
+    popped-requires returns)

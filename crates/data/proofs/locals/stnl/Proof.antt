@@ -28,4 +28,4 @@ returns c = (rw (← c .before .w-index-word .ensures .0) (c .put .ensures .0), 
 pub stnl-spec : {M : Type 1} → statement M
 stnl-spec =
     tie.close (tie.spec element-copy-out-c element-copy-out-w-index-word element-copy-out-w-index-word-2
-        element-copy-out-w-index-word-3 w-index-word-requires put-requires returns)
+    element-copy-out-w-index-word-3 w-index-word-requires put-requires returns)

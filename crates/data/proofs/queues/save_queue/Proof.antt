@@ -44,12 +44,13 @@ popped-requires c κs = search needs
 
 returns : tie.Need-returns
 unfolding saveQueue
-returns c =
-    (rw (← c .before .before .before .w-index-word .ensures .0, ← c .before .w-index-word2 .ensures .0) (c .popped .ensures .0),
-      search needs)
+returns c = (
+  rw (← c .before .before .before .w-index-word .ensures .0, ← c .before .w-index-word2 .ensures .0) (c .popped .ensures .0),
+  search needs,
+)
 
 pub save-queue-spec : {M : Type 1} → statement M
 save-queue-spec =
     tie.close (tie.spec mul-front add-front mul-front-2 element-copy-out-front mul-back add-back mul-back-2 element-copy-out-back
-        element-copy-out-w-index-word w-index-word-requires element-copy-out-w-index-word-2 w-index-word-requires-2
-        popped-requires returns)
+    element-copy-out-w-index-word w-index-word-requires element-copy-out-w-index-word-2 w-index-word-requires-2
+    popped-requires returns)

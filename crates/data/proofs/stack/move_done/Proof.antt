@@ -26,11 +26,17 @@ put-requires-3 c κs = search needs
 
 returns : tie.Need-returns
 unfolding moveDone
-returns c =
-    (rw (← c .before .before .before .before .before .at-byte .ensures, ← c .before .before .before .at-byte2 .ensures,
-      ← c .before .before .put .ensures .0, ← c .before .put2 .ensures .0) (c .put3 .ensures .0), search needs)
+returns c = (
+  rw (
+    ← c .before .before .before .before .before .at-byte .ensures,
+    ← c .before .before .before .at-byte2 .ensures,
+    ← c .before .before .put .ensures .0,
+    ← c .before .put2 .ensures .0,
+  ) (c .put3 .ensures .0),
+  search needs,
+)
 
 pub move-done-spec : {M : Type 1} → statement M
 move-done-spec =
     tie.close (tie.spec element-copy-out-at-byte at-byte-requires element-copy-out-at-byte-2 at-byte-requires-2 put-requires
-        put-requires-2 put-requires-3 returns)
+    put-requires-2 put-requires-3 returns)
