@@ -132,6 +132,36 @@ pub is-negative : {x : ℕ} → 2 ^ 31 ≤ x → ltZ (sign x) (pos 0) ≡ true
 unfolding sign
 is-negative h = rw (no-lt h)
 
+-- ---- sums, differences and tests of a word with a word or a natural number
+
+pub sign-add : (x y k : ℕ) → x < 2 ^ 32 → y < 2 ^ 32 → sign x +ℤ sign y +ℤ pos k ≡ net (bias x + bias y + k) (2 ^ 32)
+sign-add x y k hx hy =
+    rw (sign-net x hx, sign-net y hy, net-add (bias x) (2 ^ 31) (bias y) (2 ^ 31), pos-net k, net-add (bias x + bias y) (2 ^ 32) k 0)
+
+pub sign-sum : (x y : ℕ) → x < 2 ^ 32 → y < 2 ^ 32 → sign x +ℤ sign y ≡ net (bias x + bias y) (2 ^ 32)
+sign-sum x y hx hy = rw (sign-net x hx, sign-net y hy) (net-add (bias x) (2 ^ 31) (bias y) (2 ^ 31))
+
+pub sign-difference : (x y : ℕ) → x < 2 ^ 32 → y < 2 ^ 32 → sign x -ℤ sign y ≡ net (bias x) (bias y)
+sign-difference x y hx hy =
+    rw (sign-net x hx, sign-net y hy, net-sub (bias x) (2 ^ 31) (bias y) (2 ^ 31))
+    (net-same (bias x + 2 ^ 31) (2 ^ 31 + bias y) (bias x) (bias y) (omega arith))
+
+pub net-less : (p m k : ℕ) → net p m -ℤ pos k ≡ net p (m + k)
+net-less p m k = rw (neg-pos k, net-add p m 0 k) (net-same (p + 0) (m + k) p (m + k) (omega arith))
+
+pub sign-below : (x n : ℕ) → x < 2 ^ 32 → ltZ (sign x) (pos n) ≡ ltb (bias x) (n + 2 ^ 31)
+sign-below x n hx =
+    rw (sign-net x hx, pos-net n, net-lt (bias x) (2 ^ 31) n 0)
+    (same-lt (bias x + 0) (n + 2 ^ 31) (bias x) (n + 2 ^ 31) (omega arith) (omega arith))
+
+pub sign-from : (x n : ℕ) → x < 2 ^ 32 → leZ (pos n) (sign x) ≡ leb (n + 2 ^ 31) (bias x)
+sign-from x n hx =
+    rw (sign-net x hx, pos-net n, net-le n 0 (bias x) (2 ^ 31))
+    (same-le (n + 2 ^ 31) (bias x + 0) (n + 2 ^ 31) (bias x) (omega arith) (omega arith))
+
+pub sign-under : (x n : ℕ) → x < 2 ^ 32 → ltZ (sign x) (negℤ (pos n)) ≡ ltb (bias x + n) (2 ^ 31)
+sign-under x n hx = rw (sign-net x hx, neg-pos n) (net-lt (bias x) (2 ^ 31) 0 n)
+
 -- ---- OverflowCheck of a net number
 
 least : minInt ≡ net 0 (2 ^ 31)
