@@ -1,14 +1,14 @@
 -- The log of a plan: two arrays of 16 as stores of words, and a move among them. Assumes nothing.
-use mathlib.Core.Path.{_≡_, refl, sym, ap, _∙_}
-use mathlib.Core.List.{List, [], _∷_, _++_, append-assoc, append-nil}
-use Prim.Native.Nat.{ℕ, zero, suc, _+_, _-_, _*_, _≤_, _<_}
+use mathlib.Core.Path.{_≡_, refl, ap, _∙_}
+use mathlib.Core.List.{List, [], _∷_, _++_, append-assoc}
+use Prim.Native.Nat.{ℕ, zero, suc, _+_, _-_, _≤_, _<_}
 use native.Mathlib.Omega.{arith}
 use native.Mathlib.Numerals.{add-one}
-use lib.ListN.{length, getD, set, take, drop, length-take, take-append-drop}
+use lib.ListN.{length, getD, set, take, drop, take-append-drop}
 use lib.Seq.{slice, slice-empty, take-suc, take-suc-set, take-set-le, take-take, drop-append-le, length-take-le}
 use Rattle.rules.specs.Memory.{Store, word, bytes, stores}
 use Rattle.store.specs.View.{singles, moves, logged}
-use Rattle.store.proofs.Stored.{stores-append, stores-length, read-here, read-past}
+use Rattle.store.proofs.Stored.{stores-append, read-here, read-past}
 
 singles-length : (a b : List ℕ) → length a ≡ length b → length (singles a b) ≡ length a
 singles-length [] b e = refl

@@ -1,10 +1,9 @@
 -- The first access of a move that is outside memory, in closed form. Assumes nothing.
-use mathlib.Core.Path.{_≡_, refl, sym, ap, _∙_}
-use mathlib.Core.List.{List, [], _∷_}
-use Prim.Native.Nat.{ℕ, zero, suc, _+_, _-_, _*_, _/_, _%_, _^_, _≤_, _<_, min}
+use mathlib.Core.Path.{_≡_, refl, ap, _∙_}
+use mathlib.Core.List.{List}
+use Prim.Native.Nat.{ℕ, zero, suc, _-_, _*_, _^_, _≤_, _<_, min}
 use native.Mathlib.Omega.{arith}
 use lib.ListN.{length}
-use Rattle.rules.specs.Tests.{ifLt}
 use Rattle.rules.specs.Words.{range, atByte, offset, index}
 use Rattle.rules.specs.Work.{kindLoad, kindStore, moveOutside}
 use Rattle.rules.proofs.Tests.{yes-lt, no-lt, cases-lt}

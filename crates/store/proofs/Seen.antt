@@ -1,13 +1,13 @@
 -- What a load sees: a store of the same call, and bytes that the same call has moved. Assumes nothing.
-use mathlib.Core.Path.{_≡_, refl, sym, ap, _∙_}
-use mathlib.Core.List.{List, [], _∷_, _++_}
-use Prim.Native.Nat.{ℕ, zero, suc, _+_, _-_, _*_, _/_, _%_, _^_, _≤_, _<_}
+use mathlib.Core.Path.{_≡_, refl, sym, _∙_}
+use mathlib.Core.List.{List, [], _∷_}
+use Prim.Native.Nat.{ℕ, zero, suc, _+_, _-_, _*_, _%_, _^_, _≤_, _<_}
 use native.Mathlib.Nat.{mod-eq-of-lt}
 use native.Mathlib.Omega.{arith}
-use lib.ListN.{length, getD}
+use lib.ListN.{length}
 use Rattle.rules.specs.Tests.{ifLt, ifEq}
 use Rattle.rules.specs.Words.{atByte, offset, index}
-use Rattle.rules.specs.Memory.{Store, word, bytes, byteIn, setByteIn, moved, within, storing, stores}
+use Rattle.rules.specs.Memory.{bytes, byteIn, setByteIn, moved, within, storing, stores}
 use Rattle.rules.specs.Work.{Work, begin, append, wordAt, byteAt, access, storeWord, moveOutside, settleMove, transfer}
 use Rattle.rules.proofs.Tests.{yes-lt, no-lt, yes-eq, no-eq, cases-lt}
 use Rattle.store.specs.View.{moves}

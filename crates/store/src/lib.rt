@@ -1,5 +1,10 @@
 // A call being planned: the registers, the stores so far in program order (single words, and at most one move of bytes), and the first refusal.
 // Memory is only read; a load sees the call's own stores and moved bytes. Nothing is written before a commit.
+mod block;
+mod through;
+
+use block::append_move;
+use block::move_outside;
 use names::AREG;
 use names::BPTR_REG_HIGH;
 use names::BPTR_REG_LOW;
@@ -26,7 +31,8 @@ use rules::Both;
 use rules::Core;
 use rules::REGISTERS;
 use rules::System;
-use words::at_byte;
+use through::latest;
+use through::word_between;
 use words::at_word;
 use words::byte_of;
 use words::index_of;
@@ -34,15 +40,11 @@ use words::offset;
 use words::selector;
 use words::with_byte;
 ghost use mathlib.Core.Path.{_≡_};
-ghost use mathlib.Core.List.{List};
-ghost use Prim.Native.Nat.{ℕ, _+_, _*_, _<_, _≤_};
-ghost use lib.ListN.{length, getD, take};
-ghost use lib.Seq.{slice};
-ghost use Rattle.rules.specs.Memory.{word, bytes, byteIn, moved, stores};
+ghost use Prim.Native.Nat.{_<_};
+ghost use Rattle.rules.specs.Memory.{word};
 ghost use Rattle.rules.specs.Work as rules;
 ghost use Rattle.rules.specs.Registers as registers;
-ghost use Rattle.store.specs.View.{singles, moves, view, Room, Grown, Ended};
-ghost use Rattle.store.specs.Places as places;
+ghost use Rattle.store.specs.View.{view, Room, Grown, Ended};
 
 // The single stores are the first n of ix and vs. The first cut of them come before the move of count bytes from source to target, which are
 // counted in bytes from the start of memory; nothing moves where count is 0.
@@ -58,12 +60,6 @@ pub struct Plan {
     pub answer: u32,
     pub kind: u32,
     pub address: u32,
-}
-
-// The first access of a move that is outside memory; kind 0 where there is none.
-struct First {
-    kind: u32,
-    address: u32,
 }
 
 // Nothing done yet.
@@ -222,101 +218,6 @@ pub fn attempted(w: Plan, t: Attempt) -> Plan
 
 // ---- reads through the stores of the call
 
-// The value of the last of the single stores from f up to t to word i, or v, which is what the word held before them.
-fn latest(w: Plan, f: usize, t: usize, i: u32, v: u32) -> u32
-    requires { ⌜ (f ≤ t) × (t ≤ 16) ⌝ }
-    ensures { λ r. ⌜ ((m : List ℕ) → i < length m → getD m i 0 ≡ v → r ≡ getD (stores m (slice f t (singles (w .ix) (w .vs)))) i 0) ⌝ }
-{
-    let mut k = t;
-    while f < k {
-        k -= 1;
-        if w.ix[k] == i {
-            return w.vs[k];
-        }
-    }
-    v
-}
-
-// Word i after the stores before the move.
-fn word_before(w: Plan, mem: &[u32], i: u32) -> u32
-    requires { ⌜ (i < length (now mem)) × (w .cut ≤ 16) ⌝ }
-    ensures { λ r. ⌜ r ≡ getD (stores (now (mem .entry)) (take (w .cut) (singles (w .ix) (w .vs)))) i 0 ⌝ }
-{
-    let at = i as usize;
-    let cut = w.cut;
-    latest(w, 0, cut, i, mem[at])
-}
-
-// The place from which the byte at a comes.
-fn came_from(s: usize, d: usize, n: usize, a: usize) -> usize
-    requires { ⌜ (s + n < 17179869184) × (d + n < 17179869184) ⌝ }
-    ensures { λ r. ⌜ r ≡ places.cameFrom s d n a ⌝ }
-{
-    if a < d {
-        return a;
-    }
-    if a < d + n {
-        if s < d {
-            return s + (a - d) % (d - s);
-        }
-        return s + (a - d);
-    }
-    a
-}
-
-// The byte at place a after the stores before the move and the move, which is inside memory.
-fn byte_moved(w: Plan, mem: &[u32], a: usize) -> u32
-    requires { ⌜ (a < 4 * length (now mem)) × (a < 4294967296) × (w .source + w .count ≤ 4 * length (now mem)) × (w .target + w .count ≤ 4 * length (now mem)) × (w .cut ≤ 16) ⌝ }
-    ensures { λ r. ⌜ (r ≡ byteIn (moved (stores (now (mem .entry)) (take (w .cut) (singles (w .ix) (w .vs)))) (w .source) (w .target) (w .count)) a) × (r < 256) ⌝ }
-{
-    let from = came_from(w.source as usize, w.target as usize, w.count as usize, a);
-    let x = word_before(w, mem, (from / 4) as u32);
-    byte_of((from % 4) as u32, x)
-}
-
-// Word i after the stores before the move and the move, which is inside memory.
-fn word_moved(w: Plan, mem: &[u32], i: u32) -> u32
-    requires { ⌜ (i < length (now mem)) × (i < 1073741824) × (w .source + w .count ≤ 4 * length (now mem)) × (w .target + w .count ≤ 4 * length (now mem)) × (w .cut ≤ 16) ⌝ }
-    ensures { λ r. ⌜ r ≡ getD (moved (stores (now (mem .entry)) (take (w .cut) (singles (w .ix) (w .vs)))) (w .source) (w .target) (w .count)) i 0 ⌝ }
-{
-    let x = word_before(w, mem, i);
-    let a = 4 * (i as usize);
-    let d = w.target as usize;
-    let end = d + w.count as usize;
-    if end <= a {
-        return x;
-    }
-    if a + 4 <= d {
-        return x;
-    }
-    let b0 = byte_moved(w, mem, a);
-    let b1 = byte_moved(w, mem, a + 1);
-    let b2 = byte_moved(w, mem, a + 2);
-    let b3 = byte_moved(w, mem, a + 3);
-    b0 + 256 * b1 + 65536 * b2 + 16777216 * b3
-}
-
-// Word i after the stores before the move and the move, if there is one and it is inside memory.
-fn word_between(w: Plan, mem: &[u32], i: u32) -> u32
-    requires { ⌜ (i < length (now mem)) × (i < 1073741824) × (w .cut ≤ 16) ⌝ }
-    ensures { λ r. ⌜ r ≡ getD (stores (stores (now (mem .entry)) (take (w .cut) (singles (w .ix) (w .vs)))) (moves (w .source) (w .target) (w .count))) i 0 ⌝ }
-{
-    let count = w.count as usize;
-    if count == 0 {
-        return word_before(w, mem, i);
-    }
-    // Rounded up to words, so that nothing is asked of the length of memory.
-    let source = w.source as usize;
-    if mem.len() < (source + count + 3) / 4 {
-        return word_before(w, mem, i);
-    }
-    let target = w.target as usize;
-    if mem.len() < (target + count + 3) / 4 {
-        return word_before(w, mem, i);
-    }
-    word_moved(w, mem, i)
-}
-
 // The word at an address, through the stores so far; 0 outside memory.
 pub fn word_at(w: Plan, mem: &[u32], a: u32) -> u32
     requires { ⌜ Room 0 w ⌝ }
@@ -428,67 +329,6 @@ pub fn w_index_word(w: Plan, mem: &[u32], base: u32, n: u32, v: u32) -> Plan
 }
 
 // ---- the block move
-
-// How many of the n bytes from an address come before the first that is outside memory.
-fn reach(mem: &[u32], a: u32, n: u32) -> u32
-    ensures { λ r. ⌜ r ≡ places.reach (length (now (mem .entry))) a n ⌝ }
-{
-    // So much memory has every address.
-    if 0x4000_0000 <= mem.len() {
-        return n;
-    }
-    let at = offset(a) as usize;
-    let end = 4 * mem.len();
-    if end <= at {
-        return 0;
-    }
-    let room = end - at;
-    if n as usize <= room {
-        return n;
-    }
-    room as u32
-}
-
-// Bytes go in rising order, each loaded just before it is stored; so at the same byte the load is first.
-fn move_outside(mem: &[u32], source: u32, destination: u32, n: u32) -> First
-    ensures { λ r. ⌜ (r .kind, r .address) ≡ rules.moveOutside (now (mem .entry)) source destination n ⌝ }
-{
-    let s = reach(mem, source, n);
-    let d = reach(mem, destination, n);
-    if d < s {
-        return First {
-            kind: KIND_STORE,
-            address: at_byte(destination, d),
-        };
-    }
-    if s < n {
-        return First {
-            kind: KIND_LOAD,
-            address: at_byte(source, s),
-        };
-    }
-    First {
-        kind: 0,
-        address: 0,
-    }
-}
-
-// The move after the stores so far, where nothing is refused.
-fn append_move(w: Plan, s: u32, d: u32, n: u32) -> Plan
-    requires { ⌜ (0 < n) × Room 0 w × (w .count ≡ 0) ⌝ }
-    ensures { λ r. ⌜ (view r ≡ rules.append (bytes s d n) (view w)) × Ended 0 w r ⌝ }
-{
-    if w.answer == 0 {
-        let before = w.n;
-        let mut t = w;
-        t.cut = before;
-        t.source = s;
-        t.target = d;
-        t.count = n;
-        return t;
-    }
-    w
-}
 
 // All bytes of a move, or the refusal of its first access outside memory; count 0 moves nothing.
 pub fn transfer(w: Plan, mem: &[u32], source: u32, destination: u32, n: u32) -> Plan

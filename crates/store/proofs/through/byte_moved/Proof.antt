@@ -1,49 +1,33 @@
 use native.Mathlib.Omega.{arith}
-use mathlib.Core.Path.{_≡_, refl, sym, ap, _∙_}
-use Prim.Native.Nat.{ℕ, suc, _+_, _-_, _*_, _/_, _%_, _≤_, _<_}
-use lib.ListN.{length, getD, set, take, drop, length-set}
-use Rattle.rules.proofs.Tests.{yes-lt, no-lt, yes-eq, no-eq, yes, no}
-use Rattle.rules.specs.Work.{put, raise, lower, gotoSNP, putCore, putSystem, putBoth, refuseAt, append, attempted, wordAt, byteAt, access, storeWord, storeByte, rIndexWord, rIndexByte, wIndexWord}
-use Rattle.rules.specs.Registers.{coreOf, withCore, systemOf, withSystem}
-use Rattle.store.specs.View.{logged}
-use mathlib.Core.List.{List}
-use Rattle.rules.specs.Memory.{byteIn, moved, stores}
+use mathlib.Core.Path.{_≡_, sym, ap, _∙_}
+use Prim.Native.Nat.{_*_}
+use lib.ListN.{length, take}
+use Rattle.rules.specs.Memory.{byteIn, stores}
 use Rattle.store.specs.View.{singles}
 use Rattle.store.proofs.Moved.{came-byte, came-lt}
 use Rattle.store.proofs.Stored.{stores-length}
 use borrow.Author.Needs.{needs}
-use Rattle.store.proofs.byte_moved.Statement.{statement}
-use Rattle.store.proofs.byte_moved.Tie as tie
-use Rattle.store.proofs.byte_moved.Reads as reads
-use Rattle.store.proofs.byte_moved.Lts as lts
-use Rattle.store.proofs.came_from.Reads as came-from-reads
-use Rattle.store.proofs.word_before.Reads as word-before-reads
-use Rattle.words.proofs.byte_of.Reads as byte-of-reads
+use Rattle.store.proofs.through.byte_moved.Statement.{statement}
+use Rattle.store.proofs.through.byte_moved.Tie as tie
 
--- src/lib.rt:263:26
 cast-came-from : tie.Need-cast-came-from
 cast-came-from c = search needs
 
--- src/lib.rt:263:45
 cast-came-from-2 : tie.Need-cast-came-from-2
 cast-came-from-2 c = search needs
 
--- src/lib.rt:263:64
 cast-came-from-3 : tie.Need-cast-came-from-3
 cast-came-from-3 c = search needs
 
--- src/lib.rt:263:9
 came-from-requires : tie.Need-came-from-requires
 came-from-requires c κs = search needs
 
--- src/lib.rt:264:33
 cast-word-before : tie.Need-cast-word-before
 cast-word-before c =
     let S = c .before .before .before .before .before in
     let a = S .args in
     omega (arith, came-lt 17179869184 (a .w .source) (a .w .target) (a .w .count) (a .a) (omega (arith, c .before, c .before .before, c .before .before .before)) (omega (arith, c .before, c .before .before, c .before .before .before)) (omega arith), c .came-from .ensures)
 
--- src/lib.rt:264:9
 word-before-requires : tie.Need-word-before-requires
 word-before-requires c κs =
     let S = c .before .before .before .before .before in
@@ -51,15 +35,12 @@ word-before-requires c κs =
     let h = came-lt (4 * length (a .mem .now)) (a .w .source) (a .w .target) (a .w .count) (a .a) (S .pre .2) (S .pre .3) (S .pre .0) in
     (omega (arith, h, c .came-from .ensures), S .pre .4)
 
--- src/lib.rt:265:13
 cast-byte-of : tie.Need-cast-byte-of
 cast-byte-of c = search needs
 
--- src/lib.rt:265:5
 byte-of-requires : tie.Need-byte-of-requires
 byte-of-requires c κs = search needs
 
--- src/lib.rt:259:1
 returns : tie.Need-returns
 unfolding byteIn
 returns c =

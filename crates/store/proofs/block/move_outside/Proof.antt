@@ -1,51 +1,36 @@
 use native.Mathlib.Omega.{arith}
-use mathlib.Core.Path.{_≡_, refl, sym, ap, _∙_}
-use Prim.Native.Nat.{ℕ, suc, _+_, _-_, _*_, _/_, _%_, _≤_, _<_}
-use lib.ListN.{length, getD, set, take, drop, length-set}
-use Rattle.rules.proofs.Tests.{yes-lt, no-lt, yes-eq, no-eq, yes, no}
-use Rattle.rules.specs.Work.{put, raise, lower, gotoSNP, putCore, putSystem, putBoth, refuseAt, append, attempted, wordAt, byteAt, access, storeWord, storeByte, rIndexWord, rIndexByte, wIndexWord, transfer, settleMove}
-use Rattle.rules.specs.Registers.{coreOf, withCore, systemOf, withSystem}
-use Rattle.store.specs.View.{logged}
+use mathlib.Core.Path.{sym, ap}
+use Prim.Native.Nat.{ℕ}
+use lib.ListN.{length}
 use Rattle.store.proofs.Reached.{reach-le, outside-none, outside-load, outside-store}
 use borrow.Author.Needs.{needs}
-use Rattle.store.proofs.move_outside.Statement.{statement}
-use Rattle.store.proofs.move_outside.Tie as tie
-use Rattle.store.proofs.move_outside.Reads as reads
-use Rattle.store.proofs.move_outside.Lts as lts
-use Rattle.store.proofs.reach.Reads as reach-reads
-use Rattle.words.proofs.at_byte.Reads as at-byte-reads
+use Rattle.store.proofs.block.move_outside.Statement.{statement}
+use Rattle.store.proofs.block.move_outside.Tie as tie
 
--- src/lib.rt:456:9
 reach-requires : tie.Need-reach-requires
 reach-requires c κs = search needs
 
--- src/lib.rt:457:9
 reach-requires-2 : tie.Need-reach-requires-2
 reach-requires-2 c κs = search needs
 
--- src/lib.rt:459:51
 at-byte-requires : tie.Need-at-byte-requires
 at-byte-requires c κs = search needs
 
--- src/lib.rt:459:9
 returns : tie.Need-returns
 returns c =
     let R = c .before .before in
     let a = R .before .before .before .args in
     rw (outside-store (a .mem .now) (a .n) (a .source) (a .destination) (search needs) (omega (arith, R .before .reach .ensures, R .reach2 .ensures, c .before .if1 .taken)), ← R .reach2 .ensures) (ap (λ (z : ℕ). (3, z)) (c .at-byte .ensures))
 
--- src/lib.rt:462:50
 at-byte-requires-2 : tie.Need-at-byte-requires-2
 at-byte-requires-2 c κs = search needs
 
--- src/lib.rt:462:9
 returns-2 : tie.Need-returns-2
 returns-2 c =
     let R = c .before .before .before in
     let a = R .before .before .before .args in
     rw (outside-load (a .mem .now) (a .n) (a .source) (a .destination) (search needs) (omega (arith, R .before .reach .ensures, c .before .if2 .taken)) (omega (arith, R .before .reach .ensures, R .reach2 .ensures, c .before .before .if1 .left)), ← R .before .reach .ensures) (ap (λ (z : ℕ). (2, z)) (c .at-byte2 .ensures))
 
--- src/lib.rt:453:1
 returns-3 : tie.Need-returns-3
 returns-3 c =
     let R = c .before .before in

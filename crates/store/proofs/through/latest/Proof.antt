@@ -1,21 +1,15 @@
 use borrow.Author.Needs.{needs}
 use native.Mathlib.Omega.{arith}
 use mathlib.Core.Path.{_≡_, refl, sym, ap, _∙_}
-use Prim.Native.Nat.{ℕ, suc, _+_, _-_, _*_, _/_, _%_, _≤_, _<_}
-use lib.ListN.{length, getD, set, take, drop, length-set}
-use Rattle.rules.proofs.Tests.{yes-lt, no-lt, yes-eq, no-eq, yes, no}
-use Rattle.rules.specs.Work.{put, raise, lower, gotoSNP, putCore, putSystem, putBoth, refuseAt, append, attempted, wordAt, byteAt, access, storeWord, storeByte, rIndexWord, rIndexByte, wIndexWord}
-use Rattle.rules.specs.Registers.{coreOf, withCore, systemOf, withSystem}
-use Rattle.store.specs.View.{logged}
+use Prim.Native.Nat.{ℕ, _≤_}
+use lib.ListN.{length, getD}
 use mathlib.Core.List.{List}
 use lib.Seq.{slice}
 use Rattle.rules.specs.Memory.{stores}
 use Rattle.store.specs.View.{singles}
 use Rattle.store.proofs.Logged.{through-here, through-past, through-none}
-use Rattle.store.proofs.latest.Statement.{statement}
-use Rattle.store.proofs.latest.Tie as tie
-use Rattle.store.proofs.latest.Reads as reads
-use Rattle.store.proofs.latest.Lts as lts
+use Rattle.store.proofs.through.latest.Statement.{statement}
+use Rattle.store.proofs.through.latest.Tie as tie
 
 abbrev Inv-loop : tie.InvT-loop
 Inv-loop f t i v w k₀ k = (f ≤ k) × (k ≤ 16) × (length (w .ix) ≡ 16) × (length (w .vs) ≡ 16) × ((m : List ℕ) → getD (stores m (slice f t (singles (w .ix) (w .vs)))) i 0 ≡ getD (stores m (slice f k (singles (w .ix) (w .vs)))) i 0)
@@ -23,31 +17,24 @@ Inv-loop f t i v w k₀ k = (f ≤ k) × (k ≤ 16) × (length (w .ix) ≡ 16) �
 abbrev μ-loop : tie.MeasureT-loop
 μ-loop f t i v w k₀ k = k
 
--- src/lib.rt:222:5
 loop-holds : tie.Need-loop-holds Inv-loop μ-loop
 loop-holds c = (search needs, search needs, search needs, search needs, λ m. refl)
 
--- src/lib.rt:223:9
 sub-k : tie.Need-sub-k Inv-loop μ-loop
 sub-k c = search needs
 
--- src/lib.rt:224:12
 mul-if1 : tie.Need-mul-if1 Inv-loop μ-loop
 mul-if1 c = search needs
 
--- src/lib.rt:224:12
 element-copy-out-if1 : tie.Need-element-copy-out-if1 Inv-loop μ-loop
 element-copy-out-if1 c = search needs
 
--- src/lib.rt:225:20
 mul-result : tie.Need-mul-result Inv-loop μ-loop
 mul-result c = search needs
 
--- src/lib.rt:225:20
 element-copy-out-result : tie.Need-element-copy-out-result Inv-loop μ-loop
 element-copy-out-result c = search needs
 
--- src/lib.rt:225:13
 returns : tie.Need-returns Inv-loop μ-loop
 returns c =
     λ m l e.
@@ -56,11 +43,9 @@ returns c =
     let inv = L .loop .inv in
     sym (inv .4 m ∙ through-here (a .t1 .ix) (a .t1 .vs) (inv .2) (inv .3) m (a .i) (a .f) (L .loop .k) (omega arith) (omega arith) l (c .before .if1 .taken))
 
--- src/lib.rt:222:5
 loop-less : tie.Need-loop-less Inv-loop μ-loop
 loop-less c = search needs
 
--- src/lib.rt:222:5
 loop-again : tie.Need-loop-again Inv-loop μ-loop
 loop-again c =
     let L = c .before .before .before in
@@ -68,7 +53,6 @@ loop-again c =
     let inv = L .loop .inv in
     (omega arith, omega arith, inv .2, inv .3, λ m. inv .4 m ∙ through-past (a .t1 .ix) (a .t1 .vs) (inv .2) (inv .3) m (a .i) (a .f) (L .loop .k) (omega arith) (omega arith) (c .if1 .left))
 
--- src/lib.rt:217:1
 returns-2 : tie.Need-returns-2 Inv-loop μ-loop
 returns-2 c =
     λ m l e.
