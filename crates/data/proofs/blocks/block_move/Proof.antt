@@ -25,4 +25,4 @@ returns c = (rw (← c .before .transfer .ensures .0) (c .move-done .ensures .0)
 pub block-move-spec : {M : Type 1} → statement M
 block-move-spec =
     tie.close (tie.spec element-copy-out-n element-copy-out-transfer element-copy-out-transfer-2 transfer-requires move-done-requires
-        returns)
+    returns)
