@@ -1,0 +1,3 @@
+pub mod Sorting
+pub mod Frame
+pub mod Merge
