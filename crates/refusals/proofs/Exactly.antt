@@ -20,7 +20,7 @@ use Rattle.rules.specs.Step as steps
 use Rattle.rules.specs.Calls as rules
 use Rattle.rules.specs.declared.Machine.{Machine}
 use Rattle.rules.proofs.Tests.{yes-lt, no-lt, yes-eq, no-eq, yes, no, by-bool, cases-eq, cases-lt, on-eq, on-lt, on-le, on-pick}
-use Rattle.refusals.specs.Conditions.{firstOf, frame, lastTooLong, pairOutside, nothingToUndo, isHalted, asked, isIdle, isMoving, isHeld, takeNotReady, giveNotReady, pointerOutside, full}
+use Rattle.refusals.specs.Conditions.{firstOf, frame, lastTooLong, pairOutside, nothingToUndo, isHalted, asked, isIdle, isMoving, isHeld, takeNotReady, giveNotReady, pointerOutside, full, tickNumbers, takeNumbers, giveNumbers, eventNumbers, undoNumbers, clearNumbers, freshNumbers, ownAnswer, stepNumbers}
 
 -- an answer picked is the picked answer
 answer-of : (t : Bool) (o p : rules.Outcome) → pick t o p .answer ≡ pick t (o .answer) (p .answer)
@@ -68,10 +68,7 @@ unfolding links.tick links.tickClocks links.tickPrescaler links.tickSlice put
 tick-free r = on-eq Free _ _ refl (on-lt Free _ _ (on-le Free _ _ refl refl) (on-le Free _ _ refl refl))
 
 module _ (m : Machine) (mem j : List ℕ) where
-  abbrev pub tickNumbers : List (ℕ × Bool)
-  tickNumbers = (1, rules.sizeBad mem j) ∷ (4, frame m j) ∷ (12, full m mem j (links.tick (begin (m .regs)))) ∷ []
-
-  pub tick-exactly : rules.tick m mem j .answer ≡ firstOf tickNumbers
+  pub tick-exactly : rules.tick m mem j .answer ≡ firstOf (tickNumbers m mem j)
   unfolding rules.tick firstOf
   tick-exactly =
       checked-answer false m mem j (rules.settled m mem j 0 (links.tick (begin (m .regs)))) ((12, full m mem j (links.tick (begin (m .regs)))) ∷ [])
@@ -148,49 +145,21 @@ event-own r =
         (λ h. rw (no-eq h, no-eq h) (refuse-answer 8 r))
 
 module _ (m : Machine) (mem j : List ℕ) where
-  abbrev pub takeNumbers : ℕ → List (ℕ × Bool)
-  takeNumbers c =
-      (1, rules.sizeBad mem j)
-      ∷ (3, rules.notOutput c)
-      ∷ (4, frame m j)
-      ∷ (8, takeNotReady c (m .regs))
-      ∷ (10, pointerOutside c (m .regs) mem)
-      ∷ (12, full m mem j (links.take mem c (begin (m .regs))))
-      ∷ []
-
-  pub take-exactly : (c : ℕ) → rules.take c m mem j .answer ≡ firstOf (takeNumbers c)
+  pub take-exactly : (c : ℕ) → rules.take c m mem j .answer ≡ firstOf (takeNumbers c m mem j)
   unfolding rules.take
   take-exactly c =
       checked-answer (rules.notOutput c) m mem j _ _
       (settled-answer m mem j _ (links.take mem c (begin (m .regs))) ((8, takeNotReady c (m .regs)) ∷ (10, pointerOutside c (m .regs) mem) ∷ [])
       (λ t. omega arith, (λ t. omega arith, tt)) (take-own c (m .regs) mem))
 
-  abbrev pub giveNumbers : ℕ → ℕ → List (ℕ × Bool)
-  giveNumbers c byte =
-      (1, rules.sizeBad mem j)
-      ∷ (3, rules.notInput c)
-      ∷ (4, frame m j)
-      ∷ (8, giveNotReady c (m .regs))
-      ∷ (10, pointerOutside c (m .regs) mem)
-      ∷ (12, full m mem j (links.give mem c byte (begin (m .regs))))
-      ∷ []
-
-  pub give-exactly : (c byte : ℕ) → rules.give c byte m mem j .answer ≡ firstOf (giveNumbers c byte)
+  pub give-exactly : (c byte : ℕ) → rules.give c byte m mem j .answer ≡ firstOf (giveNumbers c byte m mem j)
   unfolding rules.give
   give-exactly c byte =
       checked-answer (rules.notInput c) m mem j _ _
       (settled-answer m mem j _ (links.give mem c byte (begin (m .regs))) ((8, giveNotReady c (m .regs)) ∷ (10, pointerOutside c (m .regs) mem) ∷ [])
       (λ t. omega arith, (λ t. omega arith, tt)) (give-own c byte (m .regs) mem))
 
-  abbrev pub eventNumbers : List (ℕ × Bool)
-  eventNumbers =
-      (1, rules.sizeBad mem j)
-      ∷ (4, frame m j)
-      ∷ (8, giveNotReady eventChannel (m .regs))
-      ∷ (12, full m mem j (links.event (begin (m .regs))))
-      ∷ []
-
-  pub event-exactly : rules.event m mem j .answer ≡ firstOf eventNumbers
+  pub event-exactly : rules.event m mem j .answer ≡ firstOf (eventNumbers m mem j)
   unfolding rules.event firstOf
   event-exactly =
       checked-answer false m mem j (rules.settled m mem j 0 (links.event (begin (m .regs))))
@@ -199,47 +168,24 @@ module _ (m : Machine) (mem j : List ℕ) where
 
   -- ---- undo, clear, fresh
 
-  abbrev pub undoNumbers : List (ℕ × Bool)
-  undoNumbers =
-      (1, rules.sizeBad mem j)
-      ∷ (4, frame m j)
-      ∷ (5, nothingToUndo m)
-      ∷ (4, lastTooLong m j)
-      ∷ (4, pairOutside m mem j)
-      ∷ []
-
   undo-own : ifEq (m .depth) 0 (rules.refused 5 m mem j) (rules.undoLast m mem j) .answer
       ≡ firstOf ((5, nothingToUndo m) ∷ (4, lastTooLong m j) ∷ (4, pairOutside m mem j) ∷ [])
   unfolding rules.undoLast rules.undone ifEq ifLt firstOf
   undo-own = simp answer-of
 
-  pub undo-exactly : rules.undo m mem j .answer ≡ firstOf undoNumbers
+  pub undo-exactly : rules.undo m mem j .answer ≡ firstOf (undoNumbers m mem j)
   unfolding rules.undo firstOf
   undo-exactly = checked-answer false m mem j _ ((5, nothingToUndo m) ∷ (4, lastTooLong m j) ∷ (4, pairOutside m mem j) ∷ []) undo-own
 
-  pub clear-exactly : rules.clear m mem j .answer ≡ firstOf ((1, rules.sizeBad mem j) ∷ [])
+  pub clear-exactly : rules.clear m mem j .answer ≡ firstOf (clearNumbers m mem j)
   unfolding rules.clear firstOf
   clear-exactly = simp answer-of
 
-  pub fresh-exactly : (code : List ℕ) → rules.fresh code mem j .answer ≡ firstOf ((1, rules.sizeBad mem j) ∷ (2, rules.codeBad (length mem) (length code)) ∷ [])
+  pub fresh-exactly : (code : List ℕ) → rules.fresh code mem j .answer ≡ firstOf (freshNumbers code mem j)
   unfolding rules.fresh firstOf
   fresh-exactly code = simp answer-of
 
-  -- ---- step
-
-  -- the answer of what a step does where it is neither halted nor idle: 9, 10 or 11 by its accesses in 000's order, else 0
-  abbrev pub ownAnswer : ℕ
-  ownAnswer = steps.choose mem (begin (m .regs)) .answer
-
-  abbrev pub stepNumbers : List (ℕ × Bool)
-  stepNumbers =
-      (1, rules.sizeBad mem j)
-      ∷ (4, frame m j)
-      ∷ (6, isHalted (m .regs))
-      ∷ (7, isIdle (m .regs))
-      ∷ (ownAnswer, not (eqb ownAnswer 0))
-      ∷ (12, full m mem j (steps.step mem (begin (m .regs))))
-      ∷ []
+-- ---- step
 
 -- idle, and neither (a) nor (b) applies
 never : {P : Type 0} → _≡_ {A = Bool} false true → P

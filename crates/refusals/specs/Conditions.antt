@@ -13,6 +13,8 @@ use Rattle.rules.specs.Work.{Work, begin}
 use Rattle.rules.specs.Timers.{timerReady}
 use Rattle.rules.specs.Channels.{requested}
 use Rattle.rules.specs.Journal.{recordLength, frameBad, lastPairs, lastStart, pairsAt, strays}
+use Rattle.rules.specs.Links as links
+use Rattle.rules.specs.Step as steps
 use Rattle.rules.specs.Calls.{sizeBad, codeBad, notOutput, notInput}
 use Rattle.rules.specs.declared.Machine.{Machine}
 
@@ -67,3 +69,67 @@ pointerOutside c r mem = isMoving c r && leb (length mem) (index (getD r (pointe
 -- 12 JournalFull: the record of the worked-out call does not fit after used
 abbrev pub full : Machine → List ℕ → List ℕ → Work → Bool
 full m mem j w = ltb (length j) (m .used + recordLength (length (touched (length mem) (w .stored))))
+
+-- ---- each call's numbers with their conditions, in the table's order
+
+abbrev pub freshNumbers : List ℕ → List ℕ → List ℕ → List (ℕ × Bool)
+freshNumbers code mem j = (1, sizeBad mem j) ∷ (2, codeBad (length mem) (length code)) ∷ []
+
+module _ (m : Machine) (mem j : List ℕ) where
+  -- clear can meet only 1
+  abbrev pub clearNumbers : List (ℕ × Bool)
+  clearNumbers = (1, sizeBad mem j) ∷ []
+
+  abbrev pub tickNumbers : List (ℕ × Bool)
+  tickNumbers = (1, sizeBad mem j) ∷ (4, frame m j) ∷ (12, full m mem j (links.tick (begin (m .regs)))) ∷ []
+
+  abbrev pub eventNumbers : List (ℕ × Bool)
+  eventNumbers =
+      (1, sizeBad mem j)
+      ∷ (4, frame m j)
+      ∷ (8, giveNotReady eventChannel (m .regs))
+      ∷ (12, full m mem j (links.event (begin (m .regs))))
+      ∷ []
+
+  abbrev pub undoNumbers : List (ℕ × Bool)
+  undoNumbers =
+      (1, sizeBad mem j)
+      ∷ (4, frame m j)
+      ∷ (5, nothingToUndo m)
+      ∷ (4, lastTooLong m j)
+      ∷ (4, pairOutside m mem j)
+      ∷ []
+
+  -- the answer of what a step does where it is neither halted nor idle: 9, 10 or 11 by its accesses in 000's order, else 0
+  abbrev pub ownAnswer : ℕ
+  ownAnswer = steps.choose mem (begin (m .regs)) .answer
+
+  abbrev pub stepNumbers : List (ℕ × Bool)
+  stepNumbers =
+      (1, sizeBad mem j)
+      ∷ (4, frame m j)
+      ∷ (6, isHalted (m .regs))
+      ∷ (7, isIdle (m .regs))
+      ∷ (ownAnswer, not (eqb ownAnswer 0))
+      ∷ (12, full m mem j (steps.step mem (begin (m .regs))))
+      ∷ []
+
+abbrev pub takeNumbers : ℕ → Machine → List ℕ → List ℕ → List (ℕ × Bool)
+takeNumbers c m mem j =
+    (1, sizeBad mem j)
+    ∷ (3, notOutput c)
+    ∷ (4, frame m j)
+    ∷ (8, takeNotReady c (m .regs))
+    ∷ (10, pointerOutside c (m .regs) mem)
+    ∷ (12, full m mem j (links.take mem c (begin (m .regs))))
+    ∷ []
+
+abbrev pub giveNumbers : ℕ → ℕ → Machine → List ℕ → List ℕ → List (ℕ × Bool)
+giveNumbers c byte m mem j =
+    (1, sizeBad mem j)
+    ∷ (3, notInput c)
+    ∷ (4, frame m j)
+    ∷ (8, giveNotReady c (m .regs))
+    ∷ (10, pointerOutside c (m .regs) mem)
+    ∷ (12, full m mem j (links.give mem c byte (begin (m .regs))))
+    ∷ []

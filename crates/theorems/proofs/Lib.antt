@@ -1,0 +1,4 @@
+pub mod Unique
+pub mod Refused
+pub mod Exactly
+pub mod History
