@@ -2,3 +2,4 @@ pub mod Unique
 pub mod Refused
 pub mod Exactly
 pub mod History
+pub mod Worked
