@@ -94,7 +94,7 @@ pub fn shl(s: Core) -> Attempt
 pub fn shr(s: Core) -> Attempt
     ensures { λ r. ⌜ r ≡ rules.shr s ⌝ }
 {
-    if 32 < s.a {
+    if s.a > 32 {
         return halts(s);
     }
     if s.a == 32 {

@@ -47,7 +47,7 @@ split-requires c κs = search needs
 
 -- src/lib.rt:117:1
 returns : tie.Need-returns
-returns c = cc
+returns c = rw (c .split .ensures, c .before .high-word .ensures, c .before .before .low-word .ensures)
 
 pub lmul-spec : {M : Type 1} → statement M
 lmul-spec =

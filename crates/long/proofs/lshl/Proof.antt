@@ -23,7 +23,7 @@ halts-requires c κs = search needs
 -- src/lib.rt:158:9
 returns : tie.Need-returns
 unfolding lshl
-returns c = rw (yes-lt (c .before .if1 .taken)) (cc)
+returns c = rw (yes-lt (c .before .if1 .taken)) (c .halts .ensures)
 
 -- src/lib.rt:161:21
 split-requires : tie.Need-split-requires

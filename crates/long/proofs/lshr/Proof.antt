@@ -22,7 +22,7 @@ halts-requires c κs = search needs
 -- src/lib.rt:172:9
 returns : tie.Need-returns
 unfolding lshr
-returns c = rw (yes-lt (c .before .if1 .taken)) (cc)
+returns c = rw (yes-lt (c .before .if1 .taken)) (c .halts .ensures)
 
 -- src/lib.rt:175:21
 split-requires : tie.Need-split-requires

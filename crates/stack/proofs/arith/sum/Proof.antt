@@ -19,7 +19,7 @@ result-requires c κs = search needs
 returns : tie.Need-returns
 returns c =
     let s = c .before .before .args .s in
-    rw (restore-add (s .b) (s .a) (search needs) (search needs)) (cc)
+    rw (restore-add (s .b) (s .a) (search needs) (search needs), ← c .before .wrapping-add-u32 .ensures) (c .result .ensures)
 
 pub sum-spec : {M : Type 1} → statement M
 sum-spec = tie.close (tie.spec wrapping-add-u32-requires result-requires returns)

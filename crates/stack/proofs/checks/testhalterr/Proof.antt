@@ -14,7 +14,7 @@ push-requires c κs = search needs
 -- src/checks.rt:83:9
 returns : tie.Need-returns
 unfolding testhalterr
-returns c = rw (yes-eq (c .before .if1 .taken)) (cc)
+returns c = rw (yes-eq (c .before .if1 .taken)) (c .push .ensures)
 
 -- src/checks.rt:85:5
 push-requires-2 : tie.Need-push-requires-2
@@ -23,7 +23,7 @@ push-requires-2 c κs = search needs
 -- src/checks.rt:79:1
 returns-2 : tie.Need-returns-2
 unfolding testhalterr
-returns-2 c = rw (no-eq (c .before .if1 .left)) (cc)
+returns-2 c = rw (no-eq (c .before .if1 .left)) (c .push2 .ensures)
 
 pub testhalterr-spec : {M : Type 1} → statement M
 testhalterr-spec = tie.close (tie.spec push-requires returns push-requires-2 returns-2)

@@ -24,12 +24,12 @@ push-requires-2 c κs = search needs
 -- src/clocks.rt:10:1
 returns : tie.Need-returns
 unfolding ldtimer
-returns c = rw (← c .before .before .priority-of .ensures .0, yes-eq (c .before .if1 .taken)) (cc)
+returns c = rw (← c .before .before .priority-of .ensures .0, yes-eq (c .before .if1 .taken)) (c .push .ensures)
 
 -- src/clocks.rt:10:1
 returns-2 : tie.Need-returns-2
 unfolding ldtimer
-returns-2 c = rw (← c .before .before .priority-of .ensures .0, no-eq (c .before .if1 .left)) (cc)
+returns-2 c = rw (← c .before .before .priority-of .ensures .0, no-eq (c .before .if1 .left)) (c .push2 .ensures)
 
 pub ldtimer-spec : {M : Type 1} → statement M
 ldtimer-spec =

@@ -11,7 +11,7 @@ pop-requires c κs = search needs
 
 -- src/clocks.rt:53:1
 returns : tie.Need-returns
-returns c = cc
+returns c = rw (c .pop .ensures)
 
 pub stlb-spec : {M : Type 1} → statement M
 stlb-spec = tie.close (tie.spec pop-requires returns)

@@ -11,7 +11,7 @@ pop-requires c κs = search needs
 
 -- src/clocks.rt:42:1
 returns : tie.Need-returns
-returns c = cc
+returns c = rw (c .pop .ensures)
 
 pub stlf-spec : {M : Type 1} → statement M
 stlf-spec = tie.close (tie.spec pop-requires returns)

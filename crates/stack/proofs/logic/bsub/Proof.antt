@@ -16,7 +16,7 @@ result-requires c κs = search needs
 
 -- src/logic.rt:10:1
 returns : tie.Need-returns
-returns c = cc
+returns c = rw (← c .before .at-byte .ensures) (c .result .ensures)
 
 pub bsub-spec : {M : Type 1} → statement M
 bsub-spec = tie.close (tie.spec at-byte-requires result-requires returns)

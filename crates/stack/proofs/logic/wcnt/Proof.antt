@@ -11,7 +11,7 @@ quarter-requires c κs = search needs
 
 -- src/logic.rt:29:1
 returns : tie.Need-returns
-returns c = cc
+returns c = rw (c .quarter .ensures)
 
 pub wcnt-spec : {M : Type 1} → statement M
 wcnt-spec = tie.close (tie.spec quarter-requires returns)

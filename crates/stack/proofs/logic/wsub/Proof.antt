@@ -16,7 +16,7 @@ result-requires c κs = search needs
 
 -- src/logic.rt:16:1
 returns : tie.Need-returns
-returns c = cc
+returns c = rw (← c .before .at-word .ensures) (c .result .ensures)
 
 pub wsub-spec : {M : Type 1} → statement M
 wsub-spec = tie.close (tie.spec at-word-requires result-requires returns)

@@ -21,7 +21,7 @@ move-workspace-requires c κs = search needs
 
 -- src/registers.rt:92:1
 returns : tie.Need-returns
-returns c = cc
+returns c = rw (← c .before .before .wptr-of .ensures, ← c .before .at-word .ensures) (c .move-workspace .ensures)
 
 pub ajw-spec : {M : Type 1} → statement M
 ajw-spec = tie.close (tie.spec wptr-of-requires at-word-requires move-workspace-requires returns)

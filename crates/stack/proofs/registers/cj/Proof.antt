@@ -15,7 +15,7 @@ at-byte-requires c κs = search needs
 -- src/registers.rt:87:9
 returns : tie.Need-returns
 unfolding cj
-returns c = rw (yes-eq (c .before .if1 .taken)) (cc)
+returns c = rw (yes-eq (c .before .if1 .taken), c .at-byte .ensures)
 
 -- src/registers.rt:89:5
 pop-requires : tie.Need-pop-requires
@@ -24,7 +24,7 @@ pop-requires c κs = search needs
 -- src/registers.rt:81:1
 returns-2 : tie.Need-returns-2
 unfolding cj
-returns-2 c = rw (no-eq (c .before .if1 .left)) (cc)
+returns-2 c = rw (no-eq (c .before .if1 .left)) (c .pop .ensures)
 
 pub cj-spec : {M : Type 1} → statement M
 cj-spec = tie.close (tie.spec at-byte-requires returns pop-requires returns-2)

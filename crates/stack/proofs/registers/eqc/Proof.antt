@@ -18,12 +18,12 @@ with-a-requires-2 c κs = search needs
 -- src/registers.rt:74:1
 returns : tie.Need-returns
 unfolding eqc
-returns c = rw (yes-eq (c .before .if1 .taken)) (cc)
+returns c = rw (yes-eq (c .before .if1 .taken)) (c .with-a .ensures)
 
 -- src/registers.rt:74:1
 returns-2 : tie.Need-returns-2
 unfolding eqc
-returns-2 c = rw (no-eq (c .before .if1 .left)) (cc)
+returns-2 c = rw (no-eq (c .before .if1 .left)) (c .with-a2 .ensures)
 
 pub eqc-spec : {M : Type 1} → statement M
 eqc-spec = tie.close (tie.spec with-a-requires with-a-requires-2 returns returns-2)

@@ -21,7 +21,7 @@ with-a-requires c κs = search needs
 
 -- src/registers.rt:130:1
 returns : tie.Need-returns
-returns c = cc
+returns c = rw (c .with-a .ensures, c .before .move-workspace .ensures, c .before .before .wptr-of .ensures)
 
 pub gajw-spec : {M : Type 1} → statement M
 gajw-spec = tie.close (tie.spec wptr-of-requires move-workspace-requires with-a-requires returns)

@@ -21,7 +21,7 @@ push-requires c κs = search needs
 
 -- src/registers.rt:56:1
 returns : tie.Need-returns
-returns c = cc
+returns c = rw (← c .before .before .wptr-of .ensures, ← c .before .at-word .ensures) (c .push .ensures)
 
 pub ldlp-spec : {M : Type 1} → statement M
 ldlp-spec = tie.close (tie.spec wptr-of-requires at-word-requires push-requires returns)

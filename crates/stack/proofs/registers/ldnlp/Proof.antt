@@ -16,7 +16,7 @@ with-a-requires c κs = search needs
 
 -- src/registers.rt:62:1
 returns : tie.Need-returns
-returns c = cc
+returns c = rw (← c .before .at-word .ensures) (c .with-a .ensures)
 
 pub ldnlp-spec : {M : Type 1} → statement M
 ldnlp-spec = tie.close (tie.spec at-word-requires with-a-requires returns)

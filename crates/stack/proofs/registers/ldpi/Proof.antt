@@ -16,7 +16,7 @@ with-a-requires c κs = search needs
 
 -- src/registers.rt:123:1
 returns : tie.Need-returns
-returns c = cc
+returns c = rw (← c .before .at-byte .ensures) (c .with-a .ensures)
 
 pub ldpi-spec : {M : Type 1} → statement M
 ldpi-spec = tie.close (tie.spec at-byte-requires with-a-requires returns)

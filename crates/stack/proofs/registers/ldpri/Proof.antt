@@ -16,7 +16,7 @@ push-requires c κs = search needs
 
 -- src/registers.rt:151:1
 returns : tie.Need-returns
-returns c = cc
+returns c = rw (← c .before .priority-of .ensures .0) (c .push .ensures)
 
 pub ldpri-spec : {M : Type 1} → statement M
 ldpri-spec = tie.close (tie.spec priority-of-requires push-requires returns)

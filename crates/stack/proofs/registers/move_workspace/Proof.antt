@@ -11,7 +11,7 @@ priority-of-requires c κs = search needs
 
 -- src/registers.rt:48:1
 returns : tie.Need-returns
-returns c = cc
+returns c = rw (c .priority-of .ensures .0)
 
 pub move-workspace-spec : {M : Type 1} → statement M
 move-workspace-spec = tie.close (tie.spec priority-of-requires returns)

@@ -11,7 +11,7 @@ negative-prefixed-requires c κs = search needs
 
 -- src/registers.rt:106:1
 returns : tie.Need-returns
-returns c = cc
+returns c = rw (c .negative-prefixed .ensures)
 
 pub nfix-spec : {M : Type 1} → statement M
 nfix-spec = tie.close (tie.spec negative-prefixed-requires returns)

@@ -11,7 +11,7 @@ prefixed-requires c κs = search needs
 
 -- src/registers.rt:98:1
 returns : tie.Need-returns
-returns c = cc
+returns c = rw (c .prefixed .ensures)
 
 pub pfix-spec : {M : Type 1} → statement M
 pfix-spec = tie.close (tie.spec prefixed-requires returns)
