@@ -1,3 +1,5 @@
+use native.Mathlib.Omega.{arith}
+use Prim.Native.Nat.{_+_, _^_}
 use Rattle.rules.specs.Stack.{lsum}
 use Rattle.rules.proofs.Tests.{yes-lt, no-lt, yes-le, no-le, yes-eq, no-eq}
 use borrow.Author.Needs.{needs}
@@ -44,7 +46,10 @@ split-requires c κs = search needs
 -- src/lib.rt:102:9
 returns : tie.Need-returns
 unfolding lsum
-returns c = rw (← c .before .before .before .carry-in .ensures, yes-lt (c .before .before .if1 .taken), ← c .before .low-word .ensures) (c .split .ensures)
+returns c =
+    let s = c .before .before .before .before .before .before .args .s in
+    let k = c .before .before .before .carry-in .result in
+    rw (← c .before .before .before .carry-in .ensures, yes-lt {a = 2 ^ 32} {b = s .b + s .a + k} (omega arith), ← c .before .low-word .ensures) (c .split .ensures)
 
 -- src/lib.rt:104:11
 low-word-requires-2 : tie.Need-low-word-requires-2
@@ -57,7 +62,10 @@ split-requires-2 c κs = search needs
 -- src/lib.rt:97:1
 returns-2 : tie.Need-returns-2
 unfolding lsum
-returns-2 c = rw (← c .before .before .before .carry-in .ensures, no-lt (c .before .before .if1 .left), ← c .before .low-word2 .ensures) (c .split2 .ensures)
+returns-2 c =
+    let s = c .before .before .before .before .before .before .args .s in
+    let k = c .before .before .before .carry-in .result in
+    rw (← c .before .before .before .carry-in .ensures, no-lt {a = 2 ^ 32} {b = s .b + s .a + k} (omega arith), ← c .before .low-word2 .ensures) (c .split2 .ensures)
 
 pub lsum-spec : {M : Type 1} → statement M
 lsum-spec =

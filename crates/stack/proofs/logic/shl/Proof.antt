@@ -19,7 +19,9 @@ halts-requires c κs = search needs
 -- src/logic.rt:83:9
 returns : tie.Need-returns
 unfolding shl
-returns c = rw (yes-lt (c .before .if1 .taken)) (c .halts .ensures)
+returns c =
+    let s = c .before .before .before .args .s in
+    rw (yes-lt {a = 32} {b = s .a} (omega arith)) (c .halts .ensures)
 
 -- src/logic.rt:86:21
 result-requires : tie.Need-result-requires
@@ -35,7 +37,7 @@ unfolding shl
 returns-2 c =
     let s = c .before .before .before .before .before .before .args .s in
     let e : s .b * 2 ^ s .a % 2 ^ 32 ≡ 0 = rw (c .before .before .if2 .taken) (omega arith) in
-    rw (no-lt (c .before .before .before .before .if1 .left), e, c .goes .ensures, c .before .result .ensures)
+    rw (no-lt {a = 32} {b = s .a} (omega arith), e, c .goes .ensures, c .before .result .ensures)
 
 -- src/logic.rt:88:17
 shl-result : tie.Need-shl-result
@@ -52,7 +54,9 @@ goes-requires-2 c κs = search needs
 -- src/logic.rt:79:1
 returns-3 : tie.Need-returns-3
 unfolding shl
-returns-3 c = rw (no-lt (c .before .before .before .before .before .if1 .left), c .goes2 .ensures, c .before .result2 .ensures)
+returns-3 c =
+    let s = c .before .before .before .before .before .before .before .args .s in
+    rw (no-lt {a = 32} {b = s .a} (omega arith), c .goes2 .ensures, c .before .result2 .ensures)
 
 pub shl-spec : {M : Type 1} → statement M
 shl-spec =

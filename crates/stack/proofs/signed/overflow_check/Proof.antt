@@ -1,3 +1,4 @@
+use native.Mathlib.Omega.{arith}
 use Rattle.rules.specs.Core.{overflowCheck}
 use Rattle.words.proofs.Signed.{too-low, too-high, in-range}
 use borrow.Author.Needs.{needs}
@@ -28,7 +29,9 @@ set-error-flag-requires c κs = search needs
 -- src/signed.rt:34:9
 returns : tie.Need-returns
 unfolding overflowCheck
-returns c = rw (too-low _ _ (c .before .if1 .taken), c .set-error-flag .ensures, c .before .before .with-a .ensures, c .before .before .before .word-of .ensures)
+returns c =
+    let a = c .before .before .before .before .args in
+    rw (too-low (a .p) (a .m) (omega arith), c .set-error-flag .ensures, c .before .before .with-a .ensures, c .before .before .before .word-of .ensures)
 
 -- src/signed.rt:36:12
 add-if2 : tie.Need-add-if2
@@ -37,7 +40,9 @@ add-if2 c = search needs
 -- src/signed.rt:37:9
 returns-2 : tie.Need-returns-2
 unfolding overflowCheck
-returns-2 c = rw (in-range _ _ (c .before .if1 .left) (c .if2 .taken), c .before .before .with-a .ensures, c .before .before .before .word-of .ensures)
+returns-2 c =
+    let a = c .before .before .before .before .args in
+    rw (in-range (a .p) (a .m) (omega arith) (omega arith), c .before .before .with-a .ensures, c .before .before .before .word-of .ensures)
 
 -- src/signed.rt:39:5
 set-error-flag-requires-2 : tie.Need-set-error-flag-requires-2
@@ -46,7 +51,9 @@ set-error-flag-requires-2 c κs = search needs
 -- src/signed.rt:28:1
 returns-3 : tie.Need-returns-3
 unfolding overflowCheck
-returns-3 c = rw (too-high _ _ (c .before .if2 .left), c .set-error-flag2 .ensures, c .before .before .before .with-a .ensures, c .before .before .before .before .word-of .ensures)
+returns-3 c =
+    let a = c .before .before .before .before .before .args in
+    rw (too-high (a .p) (a .m) (omega arith), c .set-error-flag2 .ensures, c .before .before .before .with-a .ensures, c .before .before .before .before .word-of .ensures)
 
 pub overflow-check-spec : {M : Type 1} → statement M
 overflow-check-spec =
