@@ -1,4 +1,5 @@
 // Arithmetic of two words: operations that touch no memory, on the seven registers by value. Each is the code of the definition of its name.
+use names::MINUS_ONE;
 use rules::Attempt;
 use rules::Core;
 use stack::checks::error_if;
@@ -51,7 +52,7 @@ pub fn xdbl(s: Core) -> Core
         t.b = 0;
         return t;
     }
-    t.b = 0xFFFF_FFFF;
+    t.b = MINUS_ONE;
     t
 }
 
@@ -64,7 +65,7 @@ pub fn csngl(s: Core) -> Core
     if s.a < 0x8000_0000 {
         return error_if(s.b != 0, t);
     }
-    error_if(s.b != 0xFFFF_FFFF, t)
+    error_if(s.b != MINUS_ONE, t)
 }
 
 pub fn carry_in(s: Core) -> u32

@@ -7,6 +7,8 @@ use super::signed::magnitude;
 use super::signed::overflow_check;
 use super::signed::quotient;
 use super::signed::remainder;
+use names::MIN_INT;
+use names::MINUS_ONE;
 use rules::Core;
 ghost use mathlib.Core.Path.{_≡_};
 ghost use Rattle.rules.specs.Stack as rules;
@@ -50,8 +52,8 @@ pub fn mul(s: Core) -> Core
 pub fn undivided(s: Core) -> bool
     ensures { λ r. ⌜ r ≡ rules.undivided s ⌝ }
 {
-    if s.b == 0x8000_0000 {
-        if s.a == 0xFFFF_FFFF {
+    if s.b == MIN_INT {
+        if s.a == MINUS_ONE {
             return true;
         }
         return s.a == 0;

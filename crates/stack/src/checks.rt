@@ -1,6 +1,8 @@
 // The error flag and halt-on-error.
 use super::registers::pop;
 use super::registers::push;
+use names::ERROR_FLAG;
+use names::HALT_ON_ERROR_BIT;
 use rules::Core;
 ghost use mathlib.Core.Path.{_≡_};
 ghost use Rattle.rules.specs.Stack as rules;
@@ -10,7 +12,7 @@ pub fn set_error_flag(s: Core) -> Core
     ensures { λ r. ⌜ r ≡ core.setErrorFlag s ⌝ }
 {
     let mut t = s;
-    t.status = s.status | 0x8000_0000;
+    t.status = s.status | ERROR_FLAG;
     t
 }
 
@@ -18,7 +20,7 @@ pub fn clear_error_flag(s: Core) -> Core
     ensures { λ r. ⌜ r ≡ core.clearErrorFlag s ⌝ }
 {
     let mut t = s;
-    t.status = s.status & !0x8000_0000;
+    t.status = s.status & !ERROR_FLAG;
     t
 }
 
@@ -48,7 +50,7 @@ pub fn ccnt1(s: Core) -> Core
 pub fn testerr(s: Core) -> Core
     ensures { λ r. ⌜ r ≡ rules.testerr s ⌝ }
 {
-    if s.status & 0x8000_0000 == 0 {
+    if s.status & ERROR_FLAG == 0 {
         return clear_error_flag(push(1, s));
     }
     clear_error_flag(push(0, s))
@@ -64,7 +66,7 @@ pub fn clrhalterr(s: Core) -> Core
     ensures { λ r. ⌜ r ≡ rules.clrhalterr s ⌝ }
 {
     let mut t = s;
-    t.status = s.status & !0x80;
+    t.status = s.status & !HALT_ON_ERROR_BIT;
     t
 }
 
@@ -72,14 +74,14 @@ pub fn sethalterr(s: Core) -> Core
     ensures { λ r. ⌜ r ≡ rules.sethalterr s ⌝ }
 {
     let mut t = s;
-    t.status = s.status | 0x80;
+    t.status = s.status | HALT_ON_ERROR_BIT;
     t
 }
 
 pub fn testhalterr(s: Core) -> Core
     ensures { λ r. ⌜ r ≡ rules.testhalterr s ⌝ }
 {
-    if s.status & 0x80 == 0 {
+    if s.status & HALT_ON_ERROR_BIT == 0 {
         return push(0, s);
     }
     push(1, s)

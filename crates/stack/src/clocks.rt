@@ -1,6 +1,7 @@
 // Queue pointers and clocks.
 use super::registers::pop;
 use super::registers::push;
+use names::CLOCKS_RUN;
 use rules::Both;
 use rules::Core;
 use rules::System;
@@ -68,7 +69,7 @@ pub fn sttimer(s: Core, y: System) -> Both
     z.clock0 = s.a;
     z.clock1 = s.a;
     z.prescaler = 0;
-    z.flags = y.flags | 1;
+    z.flags = y.flags | CLOCKS_RUN;
     Both {
         core: pop(s),
         system: z,

@@ -1,4 +1,5 @@
 // The evaluation stack, the operand, the workspace and the instruction pointer.
+use names::MIN_INT;
 use rules::Core;
 ghost use mathlib.Core.Path.{_≡_};
 ghost use Rattle.rules.specs.Stack as rules;
@@ -149,7 +150,7 @@ pub fn gcall(s: Core) -> Core
 pub fn mint(s: Core) -> Core
     ensures { λ r. ⌜ r ≡ rules.mint s ⌝ }
 {
-    push(0x8000_0000, s)
+    push(MIN_INT, s)
 }
 
 pub fn ldpri(s: Core) -> Core
