@@ -16,7 +16,7 @@ use Rattle.rules.specs.Work.{Work}
 use Rattle.rules.specs.Journal.{recordLength, recordOf, frameBad}
 use Rattle.rules.specs.Calls.{memoryBad, journalBad}
 use Rattle.rules.proofs.Tests.{no-lt}
-use Rattle.laws.proofs.Fine.{Fine, fine-begin}
+use Rattle.laws.proofs.Fine.{Fine, Known, fine-begin}
 use Rattle.laws.proofs.FineLinks.{fine-tick, fine-take, fine-give, fine-event}
 use Rattle.laws.proofs.FineStep.{fine-step}
 use Rattle.laws.proofs.Stores.{length-stores}
@@ -30,12 +30,12 @@ use Rattle.history.proofs.Records.{strays-none, written-back, last-pair
 abbrev pub Ok : Plain → Type 0
 Ok x = length (x .regs) ≡ registers
 
-pub fine-work : (c : Call) (x : Plain) → Ok x → Fine (work c x)
-fine-work step x h = fine-step (x .mem) (fine-begin (x .regs) h)
+pub fine-work : (c : Call) (x : Plain) → Ok x → Fine Known (work c x)
+fine-work step x h = fine-step (x .mem) (λ z. omega arith) (λ z. omega arith) (λ z. omega arith) (fine-begin (x .regs) h)
 fine-work tick x h = fine-tick (fine-begin (x .regs) h)
-fine-work (spec.take c) x h = fine-take (x .mem) c (fine-begin (x .regs) h)
-fine-work (give c byte) x h = fine-give (x .mem) c byte (fine-begin (x .regs) h)
-fine-work event x h = fine-event (fine-begin (x .regs) h)
+fine-work (spec.take c) x h = fine-take (x .mem) c (λ z. omega arith) (fine-begin (x .regs) h)
+fine-work (give c byte) x h = fine-give (x .mem) c byte (λ z. omega arith) (fine-begin (x .regs) h)
+fine-work event x h = fine-event (λ z. omega arith) (fine-begin (x .regs) h)
 
 -- what an accepted effect is
 module _ (x y : Plain) (w : List ℕ) (b byte : ℕ) (k : Work) (e : effect x byte k ≡ accepted y w b) where

@@ -18,7 +18,7 @@ use Rattle.rules.specs.Calls.{Outcome, refused, machineOf, sizeBad, recorded, s
 use Rattle.rules.specs.declared.Machine.{Machine}
 use Rattle.rules.proofs.Tests.{on-pick, on-lt, on-eq}
 use Rattle.laws.specs.Calls.{Kept, Refusing, Unwritten}
-use Rattle.laws.proofs.Fine.{Fine, fine-begin}
+use Rattle.laws.proofs.Fine.{Fine, Known, fine-begin}
 use Rattle.laws.proofs.FineLinks.{fine-tick, fine-take, fine-give, fine-event}
 use Rattle.laws.proofs.FineStep.{fine-step}
 use Rattle.laws.proofs.Stores.{length-stores}
@@ -152,7 +152,7 @@ module _ (m : Machine) (mem j : List ℕ) (h : length (m .regs) ≡ registers) w
   kept-refused : (n : ℕ) → n ≤ 12 → Kept mem j (refused n m mem j)
   kept-refused n q = record { count = h; memory = refl; journal = refl; known = q }
 
-  kept-settled : (b : ℕ) (w : Work) → Fine w → Kept mem j (settled m mem j b w)
+  kept-settled : (b : ℕ) (w : Work) → Fine Known w → Kept mem j (settled m mem j b w)
   unfolding settled recorded
   kept-settled b w f =
       on-eq (Kept mem j) _ _
@@ -178,7 +178,7 @@ module _ (m : Machine) (mem j : List ℕ) (h : length (m .regs) ≡ registers) w
 
   pub kept-step : Kept mem j (step m mem j)
   unfolding step
-  kept-step = kept-checked _ _ (λ u. kept-settled _ _ (fine-step mem (fine-begin (m .regs) h)))
+  kept-step = kept-checked _ _ (λ u. kept-settled _ _ (fine-step mem (λ z. omega arith) (λ z. omega arith) (λ z. omega arith) (fine-begin (m .regs) h)))
 
   pub kept-tick : Kept mem j (tick m mem j)
   unfolding tick
@@ -186,15 +186,15 @@ module _ (m : Machine) (mem j : List ℕ) (h : length (m .regs) ≡ registers) w
 
   pub kept-take : (c : ℕ) → Kept mem j (take c m mem j)
   unfolding take
-  kept-take c = kept-checked _ _ (λ u. kept-settled _ _ (fine-take mem c (fine-begin (m .regs) h)))
+  kept-take c = kept-checked _ _ (λ u. kept-settled _ _ (fine-take mem c (λ z. omega arith) (fine-begin (m .regs) h)))
 
   pub kept-give : (c byte : ℕ) → Kept mem j (give c byte m mem j)
   unfolding give
-  kept-give c byte = kept-checked _ _ (λ u. kept-settled _ _ (fine-give mem c byte (fine-begin (m .regs) h)))
+  kept-give c byte = kept-checked _ _ (λ u. kept-settled _ _ (fine-give mem c byte (λ z. omega arith) (fine-begin (m .regs) h)))
 
   pub kept-event : Kept mem j (event m mem j)
   unfolding event
-  kept-event = kept-checked _ _ (λ u. kept-settled _ _ (fine-event (fine-begin (m .regs) h)))
+  kept-event = kept-checked _ _ (λ u. kept-settled _ _ (fine-event (λ z. omega arith) (fine-begin (m .regs) h)))
 
   kept-undoLast : m .used ≤ length j → Kept mem j (undoLast m mem j)
   unfolding undoLast undone ifLt

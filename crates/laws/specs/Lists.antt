@@ -1,7 +1,10 @@
--- What the laws say of lists of numbers.
+-- What the laws say of lists of numbers, and of tables.
 use mathlib.Core.Logic.{_≢_}
+use mathlib.Core.Bool.{Bool, true, false}
 use mathlib.Core.List.{List, [], _∷_}
 use Prim.Native.Nat.{ℕ, suc, _≤_, _<_}
+use lib.Dec.{eqb}
+use Rattle.rules.specs.Tests.{pick}
 
 -- k stands nowhere in the list
 abbrev pub Off : ℕ → List ℕ → Type 0
@@ -22,3 +25,8 @@ Below n (x ∷ xs) = (x < n) × Below n xs
 abbrev pub Rises : ℕ → List ℕ → Type 0
 Rises b [] = Unit {0}
 Rises b (x ∷ xs) = (b ≤ x) × Rises (suc x) xs
+
+-- a table has a row for k
+abbrev pub listed : {A : Type 0} → ℕ → List (ℕ × A) → Bool
+listed k [] = false
+listed k (e ∷ t) = pick (eqb k (e .0)) true (listed k t)
