@@ -1,0 +1,19 @@
+// The block move in one step (01, One step).
+use crate::stack::move_done;
+use names::AREG;
+use names::BREG;
+use names::CREG;
+use store::Plan;
+use store::transfer;
+ghost use mathlib.Core.Path.{_≡_};
+ghost use Rattle.store.specs.View.{view, Room, Ended};
+ghost use Rattle.rules.specs.Data as rules;
+
+// Move message: all bytes in one step.
+pub fn block_move(w: Plan, mem: &[u32]) -> Plan
+    requires { ⌜ Room 0 w × (w .count ≡ 0) ⌝ }
+    ensures { λ r. ⌜ (view r ≡ rules.blockMove (now (mem .entry)) (view w)) × Ended 0 w r ⌝ }
+{
+    let n = w.regs[AREG];
+    move_done(transfer(w, mem, w.regs[CREG], w.regs[BREG], n), n)
+}

@@ -1,0 +1,32 @@
+// Single bytes.
+use names::AREG;
+use names::BREG;
+use names::CREG;
+use store::Plan;
+use store::put;
+use store::r_index_byte;
+use store::store_byte;
+ghost use mathlib.Core.Path.{_≡_};
+ghost use Rattle.store.specs.View.{view, Room, Grown};
+ghost use Rattle.rules.specs.Data as rules;
+
+// Load byte.
+pub fn lb(w: Plan, mem: &[u32]) -> Plan
+    requires { ⌜ Room 0 w ⌝ }
+    ensures { λ r. ⌜ (view r ≡ rules.lb (now (mem .entry)) (view w)) × Grown 0 w r ⌝ }
+{
+    r_index_byte(w, mem, w.regs[AREG], AREG)
+}
+
+// Store byte: Breg and Creg keep their values.
+pub fn sb(w: Plan, mem: &[u32]) -> Plan
+    requires { ⌜ Room 1 w ⌝ }
+    ensures { λ r. ⌜ (view r ≡ rules.sb (now (mem .entry)) (view w)) × Grown 1 w r ⌝ }
+{
+    let c = w.regs[CREG];
+    put(
+        store_byte(w, mem, w.regs[AREG], w.regs[BREG] % 256),
+        AREG,
+        c,
+    )
+}

@@ -1,0 +1,60 @@
+// Words loaded and stored by the operand, from Wptr or from Areg.
+use crate::stack::popped;
+use crate::stack::pushed;
+use names::AREG;
+use names::BREG;
+use names::CREG;
+use names::OREG;
+use names::WDESC_REG;
+use names::WPTR_MASK;
+use store::Plan;
+use store::put;
+use store::r_index_word;
+use store::w_index_word;
+ghost use mathlib.Core.Path.{_≡_};
+ghost use Rattle.store.specs.View.{view, Room, Grown};
+ghost use Rattle.rules.specs.Data as rules;
+
+// Load local.
+pub fn ldl(w: Plan, mem: &[u32]) -> Plan
+    requires { ⌜ Room 0 w ⌝ }
+    ensures { λ r. ⌜ (view r ≡ rules.ldl (now (mem .entry)) (view w)) × Grown 0 w r ⌝ }
+{
+    r_index_word(
+        pushed(w),
+        mem,
+        w.regs[WDESC_REG] & WPTR_MASK,
+        w.regs[OREG],
+        AREG,
+    )
+}
+
+// Store local.
+pub fn stl(w: Plan, mem: &[u32]) -> Plan
+    requires { ⌜ Room 1 w ⌝ }
+    ensures { λ r. ⌜ (view r ≡ rules.stl (now (mem .entry)) (view w)) × Grown 1 w r ⌝ }
+{
+    let wptr = w.regs[WDESC_REG] & WPTR_MASK;
+    popped(w_index_word(w, mem, wptr, w.regs[OREG], w.regs[AREG]))
+}
+
+// Load non-local.
+pub fn ldnl(w: Plan, mem: &[u32]) -> Plan
+    requires { ⌜ Room 0 w ⌝ }
+    ensures { λ r. ⌜ (view r ≡ rules.ldnl (now (mem .entry)) (view w)) × Grown 0 w r ⌝ }
+{
+    r_index_word(w, mem, w.regs[AREG], w.regs[OREG], AREG)
+}
+
+// Store non-local: Breg and Creg keep their values.
+pub fn stnl(w: Plan, mem: &[u32]) -> Plan
+    requires { ⌜ Room 1 w ⌝ }
+    ensures { λ r. ⌜ (view r ≡ rules.stnl (now (mem .entry)) (view w)) × Grown 1 w r ⌝ }
+{
+    let c = w.regs[CREG];
+    put(
+        w_index_word(w, mem, w.regs[AREG], w.regs[OREG], w.regs[BREG]),
+        AREG,
+        c,
+    )
+}

@@ -1,0 +1,38 @@
+// The queue pointers of a level go to memory.
+use crate::stack::popped;
+use names::AREG;
+use names::BPTR_REG;
+use names::FPTR_REG;
+use store::Plan;
+use store::w_index_word;
+ghost use Prim.Native.Nat.{_<_};
+ghost use mathlib.Core.Path.{_≡_};
+ghost use Rattle.store.specs.View.{view, Room, Grown};
+ghost use Rattle.rules.specs.Data as rules;
+
+// Those of a level.
+fn save_queue(w: Plan, mem: &[u32], level: usize) -> Plan
+    requires { ⌜ (level < 2) × Room 2 w ⌝ }
+    ensures { λ r. ⌜ (view r ≡ rules.saveQueue (now (mem .entry)) level (view w)) × Grown 2 w r ⌝ }
+{
+    let front = w.regs[FPTR_REG + 2 * level];
+    let back = w.regs[BPTR_REG + 2 * level];
+    let s = w_index_word(w, mem, w.regs[AREG], 0, front);
+    popped(w_index_word(s, mem, w.regs[AREG], 1, back))
+}
+
+// Save high priority queue registers.
+pub fn saveh(w: Plan, mem: &[u32]) -> Plan
+    requires { ⌜ Room 2 w ⌝ }
+    ensures { λ r. ⌜ (view r ≡ rules.saveh (now (mem .entry)) (view w)) × Grown 2 w r ⌝ }
+{
+    save_queue(w, mem, 0)
+}
+
+// Save low priority queue registers.
+pub fn savel(w: Plan, mem: &[u32]) -> Plan
+    requires { ⌜ Room 2 w ⌝ }
+    ensures { λ r. ⌜ (view r ≡ rules.savel (now (mem .entry)) (view w)) × Grown 2 w r ⌝ }
+{
+    save_queue(w, mem, 1)
+}

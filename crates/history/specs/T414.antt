@@ -1,0 +1,141 @@
+-- Our calls, as a sequence: `perform` is the calls of `rules` themselves. And the machine of Machine.antt that they are (proofs/Calls.antt).
+use mathlib.Core.Bool.{Bool, true, false, _||_}
+use mathlib.Core.List.{List, [], _∷_}
+use mathlib.Core.Option.{Option, none, some}
+use Prim.Native.Nat.{ℕ}
+use lib.Dec.{eqb}
+use lib.ListN.{length, drop}
+use lib.ListN as lists
+use Rattle.rules.specs.Tests.{pick, ifLt, ifEq}
+use Rattle.rules.specs.Memory.{stores, touched}
+use Rattle.rules.specs.Work.{Work, begin}
+use Rattle.rules.specs.Links as links
+use Rattle.rules.specs.Step as steps
+use Rattle.rules.specs.Journal.{recordLength, recordOf, frameBad, lastPairs, lastStart, lastRegs, pairsAt, writeBack, strays}
+use Rattle.rules.specs.Calls.{Outcome, memoryBad, journalBad, notOutput, notInput}
+use Rattle.rules.specs.Calls as calls
+use Rattle.rules.specs.declared.Machine as declared
+use Rattle.history.specs.Machine.{Effect, refused, accepted, Act, call, undo, Machine}
+
+-- ---- sequences of calls
+
+-- the calls that add a record
+pub data Call : Type 0 where
+  step : Call
+  tick : Call
+  take : ℕ → Call
+  give : ℕ → ℕ → Call
+  event : Call
+
+-- all that the calls speak of
+pub record Whole : Type 0 where
+  pub machine : declared.Machine
+  pub memory : List ℕ
+  pub journal : List ℕ
+
+abbrev pub perform : Act Call → Whole → Outcome
+perform (call step) s = calls.step (s .machine) (s .memory) (s .journal)
+perform (call tick) s = calls.tick (s .machine) (s .memory) (s .journal)
+perform (call (take c)) s = calls.take c (s .machine) (s .memory) (s .journal)
+perform (call (give c byte)) s = calls.give c byte (s .machine) (s .memory) (s .journal)
+perform (call event) s = calls.event (s .machine) (s .memory) (s .journal)
+perform undo s = calls.undo (s .machine) (s .memory) (s .journal)
+
+-- what a call leaves
+abbrev pub after : Outcome → Whole
+after o = record { machine = o .machine; memory = o .memory; journal = o .journal }
+
+-- the calls made one after the other
+unfoldable pub run : List (Act Call) → Whole → Whole
+run [] s = s
+run (a ∷ acts) s = run acts (after (perform a s))
+
+-- the test: the call is accepted. An accepted call stands; an accepted undo takes the last one off
+abbrev pub stack : Act Call → Bool → List Call → List Call
+stack (call c) true k = c ∷ k
+stack undo true k = drop 1 k
+stack a false k = k
+
+-- the accepted calls that are not undone, the last one first, where those of k stood before
+unfoldable pub standing : List (Act Call) → Whole → List Call → List Call
+standing [] s k = k
+standing (a ∷ acts) s k = standing acts (after (perform a s)) (stack a (eqb (perform a s .answer) 0) k)
+
+-- what shows: registers, memory, depth, used, and the journal's words in use
+pub record Shown : Type 0 where
+  pub registers : List ℕ
+  pub memory : List ℕ
+  pub depth : ℕ
+  pub used : ℕ
+  pub records : List ℕ
+
+abbrev pub shown : Whole → Shown
+shown s =
+    record {
+      registers = s .machine .regs;
+      memory = s .memory;
+      depth = s .machine .depth;
+      used = s .machine .used;
+      records = lists.take (s .machine .used) (s .journal);
+    }
+
+-- ---- registers and memory, and what a call does to them without a journal
+
+pub record Plain : Type 0 where
+  pub regs : List ℕ
+  pub mem : List ℕ
+
+abbrev pub work : Call → Plain → Work
+work step x = steps.step (x .mem) (begin (x .regs))
+work tick x = links.tick (begin (x .regs))
+work (take c) x = links.take (x .mem) c (begin (x .regs))
+work (give c byte) x = links.give (x .mem) c byte (begin (x .regs))
+work event x = links.event (begin (x .regs))
+
+abbrev pub byteOf : Call → Plain → ℕ
+byteOf step x = 0
+byteOf tick x = 0
+byteOf (take c) x = links.taken (x .mem) c (begin (x .regs))
+byteOf (give c byte) x = 0
+byteOf event x = 0
+
+-- the words touched
+abbrev pub places : Plain → Work → List ℕ
+places x w = touched (length (x .mem)) (w .stored)
+
+unfoldable pub effect : Plain → ℕ → Work → Effect Plain
+effect x byte w =
+    ifEq (w .answer) 0
+    (accepted (record { regs = w .regs; mem = stores (x .mem) (w .stored) }) (recordOf (x .mem) (x .regs) (places x w)) byte)
+    (refused (w .answer))
+
+abbrev pub badChannel : Act Call → Bool
+badChannel (call step) = false
+badChannel (call tick) = false
+badChannel (call (take c)) = notOutput c
+badChannel (call (give c byte)) = notInput c
+badChannel (call event) = false
+badChannel undo = false
+
+-- Size, BadChannel, JournalBad
+unfoldable pub guard : Act Call → Plain → ℕ → ℕ → ℕ → Option ℕ
+guard a x size depth used =
+    pick (memoryBad (length (x .mem)) || journalBad size) (some 1)
+    (pick (badChannel a) (some 3) (pick (frameBad size depth used) (some 4) none))
+
+-- the last record's registers, and its pairs written back
+unfoldable pub unrecord : Plain → ℕ → List ℕ → Option (Plain × ℕ)
+unrecord x used j =
+    ifLt used (recordLength (lastPairs j used)) none
+    (pick (strays (length (x .mem)) (pairsAt j (lastStart j used) (lastPairs j used))) none
+    (some (record { regs = lastRegs j used; mem = writeBack (x .mem) (pairsAt j (lastStart j used) (lastPairs j used)) }, lastStart j used)))
+
+abbrev pub t414 : Machine
+t414 =
+    record {
+      Core = Plain;
+      Call = Call;
+      guard = guard;
+      next = λ c x. effect x (byteOf c x) (work c x);
+      unrecord = unrecord;
+    }

@@ -1,0 +1,5 @@
+pub mod Sorting
+pub mod Frame
+pub mod Merge
+pub mod Written
+pub mod Outcomes

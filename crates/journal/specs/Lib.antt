@@ -1,0 +1,2 @@
+pub mod Indices
+pub mod Outline

@@ -1,0 +1,130 @@
+-- Work keeps its registers: there are 45 of them. And its answer keeps a property that 10 and 11 have where 0 has it: to be one of 01's numbers, or
+-- to be neither 0 nor 9, say. The number of a refusal that comes first stays. Assumes nothing.
+use mathlib.Core.Path.{_≡_, subst, _∙_}
+use mathlib.Core.List.{List}
+use Prim.Native.Nat.{ℕ, _≤_}
+use native.Mathlib.Omega.{arith}
+use lib.ListN.{length, length-set}
+use Rattle.rules.specs.Registers.{registers, withCore, withSystem}
+use Rattle.rules.specs.Memory.{Store}
+use Rattle.rules.specs.Work.{Work, begin, put, raise, lower, gotoSNP, putCore, putSystem, onCore, onAttempt, onBoth, outside, stop, refuseAt, refuse, append, attempted, putBoth, access, storeWord, storeByte, rIndexWord, rIndexByte, wIndexWord, settleMove, transfer}
+use Rattle.rules.specs.declared.Core.{Core}
+use Rattle.rules.specs.declared.System.{System}
+use Rattle.rules.specs.declared.Attempt.{Attempt}
+use Rattle.rules.specs.declared.Both.{Both}
+use Rattle.rules.proofs.Tests.{yes-eq, no-eq, cases-eq, on-pick, on-lt, on-eq}
+
+pub record Fine (P : ℕ → Type 0) (w : Work) : Type 0 where
+  pub count : length (w .regs) ≡ registers
+  pub known : P (w .answer)
+  pub ten : P 0 → P outside
+  pub eleven : P 0 → P stop
+
+-- one of 01's numbers
+abbrev pub Known : ℕ → Type 0
+Known n = n ≤ 12
+
+pub fine-begin : (r : List ℕ) → length r ≡ registers → Fine Known (begin r)
+fine-begin r h = record { count = h; known = omega arith; ten = λ z. omega arith; eleven = λ z. omega arith }
+
+length-withCore : (s : Core) (r : List ℕ) → length (withCore s r) ≡ length r
+unfolding withCore
+length-withCore s r = simp length-set
+
+length-withSystem : (y : System) (r : List ℕ) → length (withSystem y r) ≡ length r
+unfolding withSystem
+length-withSystem y r = simp length-set
+
+module _ {P : ℕ → Type 0} where
+  pub fine-put : (k v : ℕ) {w : Work} → Fine P w → Fine P (put k v w)
+  unfolding put
+  fine-put k v {w} f = record { count = length-set (w .regs) k v ∙ f .count; known = f .known; ten = f .ten; eleven = f .eleven }
+
+  pub fine-raise : (k mask : ℕ) {w : Work} → Fine P w → Fine P (raise k mask w)
+  unfolding raise
+  fine-raise k mask f = fine-put _ _ f
+
+  pub fine-lower : (k mask : ℕ) {w : Work} → Fine P w → Fine P (lower k mask w)
+  unfolding lower
+  fine-lower k mask f = fine-put _ _ f
+
+  pub fine-gotoSNP : {w : Work} → Fine P w → Fine P (gotoSNP w)
+  unfolding gotoSNP
+  fine-gotoSNP f = fine-raise _ _ f
+
+  pub fine-putCore : (s : Core) {w : Work} → Fine P w → Fine P (putCore s w)
+  unfolding putCore
+  fine-putCore s {w} f = record { count = length-withCore s (w .regs) ∙ f .count; known = f .known; ten = f .ten; eleven = f .eleven }
+
+  pub fine-putSystem : (y : System) {w : Work} → Fine P w → Fine P (putSystem y w)
+  unfolding putSystem
+  fine-putSystem y {w} f = record { count = length-withSystem y (w .regs) ∙ f .count; known = f .known; ten = f .ten; eleven = f .eleven }
+
+  -- ---- refusals, stores
+
+  pub fine-refuseAt : (number kind address : ℕ) → (P 0 → P number) → {w : Work} → Fine P w → Fine P (refuseAt number kind address w)
+  unfolding refuseAt
+  fine-refuseAt number kind address h {w} f =
+      cases-eq (w .answer) 0
+      (λ e. rw (yes-eq e) (record { count = f .count; known = h (subst P e (f .known)); ten = f .ten; eleven = f .eleven }))
+      (λ e. rw (no-eq e) f)
+
+  pub fine-refuse : (number : ℕ) → (P 0 → P number) → {w : Work} → Fine P w → Fine P (refuse number w)
+  fine-refuse number h f = fine-refuseAt number 0 0 h f
+
+  pub fine-append : (s : Store) {w : Work} → Fine P w → Fine P (append s w)
+  unfolding append
+  fine-append s f = on-eq (Fine P) _ _ (record { count = f .count; known = f .known; ten = f .ten; eleven = f .eleven }) f
+
+  -- ---- operations on registers alone
+
+  pub fine-onCore : (g : Core → Core) {w : Work} → Fine P w → Fine P (onCore g w)
+  fine-onCore g f = fine-putCore _ f
+
+  pub fine-attempted : (t : Attempt) {w : Work} → Fine P w → Fine P (attempted t w)
+  unfolding attempted
+  fine-attempted t f = on-pick (Fine P) (t .stops) (fine-refuse stop (f .eleven) f) (fine-putCore _ f)
+
+  pub fine-onAttempt : (g : Core → Attempt) {w : Work} → Fine P w → Fine P (onAttempt g w)
+  fine-onAttempt g f = fine-attempted _ f
+
+  pub fine-putBoth : (t : Both) {w : Work} → Fine P w → Fine P (putBoth t w)
+  unfolding putBoth
+  fine-putBoth t f = fine-putSystem _ (fine-putCore _ f)
+
+  pub fine-onBoth : (g : Core → System → Both) {w : Work} → Fine P w → Fine P (onBoth g w)
+  fine-onBoth g f = fine-putBoth _ f
+
+  -- ---- accesses
+
+  pub fine-access : (m : List ℕ) (kind a : ℕ) {w : Work} → Fine P w → Fine P (access m kind a w)
+  unfolding access
+  fine-access m kind a f = on-lt (Fine P) _ _ f (fine-refuseAt _ _ _ (f .ten) f)
+
+  pub fine-storeWord : (m : List ℕ) (a v : ℕ) {w : Work} → Fine P w → Fine P (storeWord m a v w)
+  unfolding storeWord
+  fine-storeWord m a v f = fine-append _ (fine-access m _ _ f)
+
+  pub fine-storeByte : (m : List ℕ) (a b : ℕ) {w : Work} → Fine P w → Fine P (storeByte m a b w)
+  unfolding storeByte
+  fine-storeByte m a b f = fine-append _ (fine-access m _ _ f)
+
+  pub fine-rIndexWord : (m : List ℕ) (base n k : ℕ) {w : Work} → Fine P w → Fine P (rIndexWord m base n k w)
+  unfolding rIndexWord
+  fine-rIndexWord m base n k f = fine-put _ _ (fine-access m _ _ f)
+
+  pub fine-rIndexByte : (m : List ℕ) (base k : ℕ) {w : Work} → Fine P w → Fine P (rIndexByte m base k w)
+  unfolding rIndexByte
+  fine-rIndexByte m base k f = fine-put _ _ (fine-access m _ _ f)
+
+  pub fine-wIndexWord : (m : List ℕ) (base n v : ℕ) {w : Work} → Fine P w → Fine P (wIndexWord m base n v w)
+  unfolding wIndexWord
+  fine-wIndexWord m base n v f = fine-storeWord m _ _ f
+
+  pub fine-settleMove : (m : List ℕ) (first : ℕ × ℕ) (source destination n : ℕ) {w : Work} → Fine P w → Fine P (settleMove m first source destination n w)
+  unfolding settleMove
+  fine-settleMove m first source destination n f = on-eq (Fine P) _ _ (fine-append _ f) (fine-refuseAt _ _ _ (f .ten) f)
+
+  pub fine-transfer : (m : List ℕ) (source destination n : ℕ) {w : Work} → Fine P w → Fine P (transfer m source destination n w)
+  unfolding transfer
+  fine-transfer m source destination n f = on-eq (Fine P) _ _ f (fine-settleMove m _ _ _ _ f)

@@ -1,0 +1,243 @@
+-- Every action of the tables keeps work fine, so what they look up does; only a code without a row is refused with 9. Assumes nothing.
+use mathlib.Core.Path.{_≡_, refl, sym, ap, subst, _∙_}
+use mathlib.Core.Bool.{Bool, true, false}
+use mathlib.Core.List.{List, [], _∷_}
+use Prim.Native.Nat.{ℕ, suc, _≤_, _<_}
+use native.Mathlib.Omega.{arith}
+use Rattle.rules.specs.Tests.{pick, look}
+use lib.Dec.{eqb}
+use Rattle.rules.specs.Stack as stack
+use Rattle.rules.specs.Scheduling as scheduling
+use Rattle.rules.specs.Data as loads
+use Rattle.rules.specs.Registers.{oreg}
+use Rattle.rules.specs.Work.{Work, reg, unlisted, refuse}
+use Rattle.rules.specs.Operations.{Action, pure, pureOrStop, pureBoth, loadTimer, operations, functions, unlistedAction, operate, opr, function}
+use Rattle.rules.specs.declared.Core.{Core}
+use Rattle.rules.specs.declared.System.{System}
+use Rattle.rules.specs.declared.Attempt.{Attempt}
+use Rattle.rules.specs.declared.Both.{Both}
+use Rattle.rules.proofs.Tests.{on-pick}
+use Rattle.laws.specs.Lists.{listed}
+use Rattle.laws.proofs.Fine.{Fine, fine-putCore, fine-refuse, fine-attempted, fine-putBoth}
+use Rattle.laws.proofs.FineScheduling.{fine-endp, fine-startp, fine-stopp, fine-lend, fine-runp, fine-stoperr, fine-j}
+use Rattle.laws.proofs.FineData.{fine-lb, fine-ret, fine-sb, fine-savel, fine-saveh, fine-altend, fine-blockMove, fine-ldnl, fine-ldl, fine-call, fine-stl, fine-stnl}
+use Rattle.laws.proofs.FineTimers.{fine-tin, fine-dist, fine-enbt, fine-talt, fine-taltwt}
+use Rattle.laws.proofs.FineChannels.{fine-input, fine-output, fine-outbyte, fine-outword, fine-resetch, fine-disc, fine-diss, fine-alt, fine-altwt, fine-enbc, fine-enbs}
+
+-- ---- the tables
+
+-- the functions but opr
+abbrev pub direct : List (ℕ × Action)
+direct =
+    (0x0, scheduling.j)
+    ∷ (0x1, pure stack.ldlp)
+    ∷ (0x3, loads.ldnl)
+    ∷ (0x4, pure stack.ldc)
+    ∷ (0x5, pure stack.ldnlp)
+    ∷ (0x7, loads.ldl)
+    ∷ (0x8, pure stack.adc)
+    ∷ (0x9, loads.call)
+    ∷ (0xA, pure stack.cj)
+    ∷ (0xB, pure stack.ajw)
+    ∷ (0xC, pure stack.eqc)
+    ∷ (0xD, loads.stl)
+    ∷ (0xE, loads.stnl)
+    ∷ []
+
+function-is : (code : ℕ) (m : List ℕ) (w : Work) → function code m w ≡ look direct code (pick (eqb code 0xF) opr unlistedAction) m w
+unfolding function functions
+function-is code m w = refl
+
+-- a code without a row gets the default
+pub look-unlisted : (t : List (ℕ × Action)) (k : ℕ) (d : Action) → listed k t ≡ false → look t k d ≡ d
+look-unlisted [] k d h = refl
+look-unlisted (e ∷ t) k d h = go (eqb k (e .0)) h (look-unlisted t k d)
+  where
+    go : (b : Bool) → pick b true (listed k t) ≡ false → (listed k t ≡ false → look t k d ≡ d) → pick b (e .1) (look t k d) ≡ d
+    go true z f = absurd (let y : _≡_ {A = ℕ} 0 1 = cc in omega arith)
+    go false z f = f z
+
+pub operate-unlisted : (code : ℕ) (m : List ℕ) (w : Work) → listed code operations ≡ false → operate code m w ≡ refuse unlisted w
+unfolding operate
+operate-unlisted code m w h = rw (look-unlisted operations code unlistedAction h)
+
+-- a code with a row is another one than a code without
+other : (t : List (ℕ × Action)) (k n : ℕ) → listed k t ≡ false → listed n t ≡ true → k ≡ n → ⊥
+other t k n h q e = let y : _≡_ {A = ℕ} 0 1 = clash (sym h ∙ ap (λ (c : ℕ). listed c t) e ∙ q) in omega arith
+  where
+    clash : _≡_ {A = Bool} false true → _≡_ {A = ℕ} 0 1
+    clash z = cc
+
+above : (k c : ℕ) → k ≤ c → (c ≡ k → ⊥) → suc k ≤ c
+above k c h n = omega arith
+
+below : (c : ℕ) → c < 16 → 16 ≤ c → ⊥
+below c h k = omega arith
+
+-- every function of a byte but the prefixes and opr is in the table
+direct-listed : (code : ℕ) → code < 16 → (code ≡ 2 → ⊥) → (code ≡ 6 → ⊥) → (code ≡ 0xF → ⊥) → listed code direct ≡ false → ⊥
+direct-listed code b n₂ n₆ n₁₅ h =
+    let n : (k : ℕ) → listed k direct ≡ true → code ≡ k → ⊥ = λ k. other direct code k h in
+    below code b (above 15 code (above 14 code (above 13 code (above 12 code (above 11 code (above 10 code (above 9 code (above 8 code (above 7 code (above 6 code (above 5 code (above 4 code (above 3 code (above 2 code (above 1 code (above 0 code (omega arith) (n 0 refl)) (n 1 refl)) n₂) (n 3 refl)) (n 4 refl)) (n 5 refl)) n₆) (n 7 refl)) (n 8 refl)) (n 9 refl)) (n 10 refl)) (n 11 refl)) (n 12 refl)) (n 13 refl)) (n 14 refl)) n₁₅)
+
+-- ---- tables whose actions keep work fine
+
+pub Keeps : (ℕ → Type 0) → Action → Type 0
+Keeps P a = (m : List ℕ) (w : Work) → Fine P w → Fine P (a m w)
+
+infixr 5 _&_
+pub data AllKeep (P : ℕ → Type 0) : List (ℕ × Action) → Type 0 where
+  none : AllKeep P []
+  _&_ : {k : ℕ} {a : Action} {t : List (ℕ × Action)} → Keeps P a → AllKeep P t → AllKeep P ((k, a) ∷ t)
+
+module _ (P : ℕ → Type 0) where
+  -- what a table of such has at k, if the default is such where k has no row
+  look-keeps : (t : List (ℕ × Action)) (k : ℕ) (d : Action) → AllKeep P t → (listed k t ≡ false → Keeps P d) → Keeps P (look t k d)
+  look-keeps [] k d none h = h refl
+  look-keeps ((n, a) ∷ t) k d (p & q) h = go (eqb k n) h (look-keeps t k d q)
+    where
+      go : (b : Bool) → (pick b true (listed k t) ≡ false → Keeps P d) → ((listed k t ≡ false → Keeps P d) → Keeps P (look t k d)) → Keeps P (pick b a (look t k d))
+      go true z f = p
+      go false z f = f z
+
+  -- ---- the kinds of actions
+
+  keeps-pure : (g : Core → Core) → Keeps P (pure g)
+  unfolding Keeps
+  keeps-pure g m w f = fine-putCore _ f
+
+  keeps-attempt : (g : Core → Attempt) → Keeps P (pureOrStop g)
+  unfolding Keeps
+  keeps-attempt g m w f = fine-attempted _ f
+
+  keeps-both : (g : Core → System → Both) → Keeps P (pureBoth g)
+  unfolding Keeps
+  keeps-both g m w f = fine-putBoth _ f
+
+  keeps-timer : Keeps P loadTimer
+  unfolding Keeps
+  keeps-timer m w f = fine-putCore _ f
+
+  all-operations : AllKeep P operations
+  unfolding Keeps operations
+  all-operations =
+      keeps-pure stack.rev &
+      (λ m w f. fine-lb m f) &
+      keeps-pure stack.bsub &
+      (λ m w f. fine-endp m f) &
+      keeps-pure stack.diff &
+      keeps-pure stack.add &
+      keeps-pure stack.gcall &
+      (λ m w f. fine-input m f) &
+      keeps-pure stack.prod &
+      keeps-pure stack.gt &
+      keeps-pure stack.wsub &
+      (λ m w f. fine-output m f) &
+      keeps-pure stack.sub &
+      (λ m w f. fine-startp m f) &
+      (λ m w f. fine-outbyte m f) &
+      (λ m w f. fine-outword m f) &
+      keeps-pure stack.seterr &
+      (λ m w f. fine-resetch m f) &
+      keeps-pure stack.csub0 &
+      (λ m w f. fine-stopp m f) &
+      keeps-pure stack.ladd &
+      keeps-both stack.stlb &
+      keeps-both stack.sthf &
+      keeps-pure stack.norm &
+      keeps-pure stack.ldiv &
+      keeps-pure stack.ldpi &
+      keeps-both stack.stlf &
+      keeps-pure stack.xdbl &
+      keeps-pure stack.ldpri &
+      keeps-pure stack.rem &
+      (λ m w f. fine-ret m f) &
+      (λ m w f. fine-lend m f) &
+      keeps-timer &
+      keeps-pure stack.testerr &
+      keeps-pure stack.testpranal &
+      (λ m w f. fine-tin m f) &
+      keeps-pure stack.div &
+      (λ m w f. fine-dist m f) &
+      (λ m w f. fine-disc m f) &
+      (λ m w f. fine-diss m f) &
+      keeps-pure stack.lmul &
+      keeps-pure stack.bitnot &
+      keeps-pure stack.xor &
+      keeps-pure stack.bcnt &
+      keeps-attempt stack.lshr &
+      keeps-attempt stack.lshl &
+      keeps-pure stack.lsum &
+      keeps-pure stack.lsub &
+      (λ m w f. fine-runp m f) &
+      keeps-pure stack.xword &
+      (λ m w f. fine-sb m f) &
+      keeps-pure stack.gajw &
+      (λ m w f. fine-savel m f) &
+      (λ m w f. fine-saveh m f) &
+      keeps-pure stack.wcnt &
+      keeps-attempt stack.shr &
+      keeps-attempt stack.shl &
+      keeps-pure stack.mint &
+      (λ m w f. fine-alt m f) &
+      (λ m w f. fine-altwt m f) &
+      (λ m w f. fine-altend m f) &
+      keeps-pure stack.and &
+      (λ m w f. fine-enbt m f) &
+      (λ m w f. fine-enbc m f) &
+      (λ m w f. fine-enbs m f) &
+      (λ m w f. fine-blockMove m f) &
+      keeps-pure stack.or &
+      keeps-pure stack.csngl &
+      keeps-pure stack.ccnt1 &
+      (λ m w f. fine-talt m f) &
+      keeps-pure stack.ldiff &
+      keeps-both stack.sthb &
+      (λ m w f. fine-taltwt m f) &
+      keeps-pure stack.sum &
+      keeps-pure stack.mul &
+      keeps-both stack.sttimer &
+      (λ m w f. fine-stoperr m f) &
+      keeps-pure stack.cword &
+      keeps-pure stack.clrhalterr &
+      keeps-pure stack.sethalterr &
+      keeps-pure stack.testhalterr &
+      none
+
+  all-direct : AllKeep P direct
+  unfolding Keeps
+  all-direct =
+      (λ m w f. fine-j m f) &
+      keeps-pure stack.ldlp &
+      (λ m w f. fine-ldnl m f) &
+      keeps-pure stack.ldc &
+      keeps-pure stack.ldnlp &
+      (λ m w f. fine-ldl m f) &
+      keeps-pure stack.adc &
+      (λ m w f. fine-call m f) &
+      keeps-pure stack.cj &
+      keeps-pure stack.ajw &
+      keeps-pure stack.eqc &
+      (λ m w f. fine-stl m f) &
+      (λ m w f. fine-stnl m f) &
+      none
+
+module _ {P : ℕ → Type 0} where
+  -- an operation of the list; and any, where the property allows 9
+  pub fine-operate : (code : ℕ) (m : List ℕ) → (listed code operations ≡ false → P 0 → P unlisted) → {w : Work} → Fine P w → Fine P (operate code m w)
+  unfolding operate Keeps
+  fine-operate code m h {w} f = look-keeps P operations code unlistedAction (all-operations P) (λ z m w f. fine-refuse unlisted (h z) f) m w f
+
+  pub fine-function : (code : ℕ) (m : List ℕ) → (P 0 → P unlisted) → {w : Work} → Fine P w → Fine P (function code m w)
+  unfolding Keeps
+  fine-function code m h {w} f =
+      subst (Fine P) (sym (function-is code m w))
+      (look-keeps P direct code (pick (eqb code 0xF) opr unlistedAction) (all-direct P)
+      (λ z. on-pick (Keeps P) (eqb code 0xF) (λ m w f. fine-operate _ m (λ z. h) f) (λ m w f. fine-refuse unlisted h f)) m w f)
+
+  -- the functions of a byte but opr (and the prefixes) are never refused with 9
+  pub fine-direct : (code : ℕ) (m : List ℕ) → code < 16 → (code ≡ 2 → ⊥) → (code ≡ 6 → ⊥) → (code ≡ 0xF → ⊥) → {w : Work} → Fine P w → Fine P (function code m w)
+  unfolding Keeps
+  fine-direct code m b n₂ n₆ n₁₅ {w} f =
+      subst (Fine P) (sym (function-is code m w))
+      (look-keeps P direct code (pick (eqb code 0xF) opr unlistedAction) (all-direct P) (λ z. absurd (direct-listed code b n₂ n₆ n₁₅ z)) m w f)

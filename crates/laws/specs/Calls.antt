@@ -1,0 +1,23 @@
+-- What the laws say of what a call comes to.
+use mathlib.Core.Path.{_≡_}
+use mathlib.Core.List.{List}
+use Prim.Native.Nat.{ℕ, _≤_}
+use lib.ListN.{length}
+use Rattle.rules.specs.Registers.{registers}
+use Rattle.rules.specs.Calls.{Outcome, refused}
+use Rattle.rules.specs.declared.Machine.{Machine}
+
+-- the registers are still 45, memory and journal are as long as before, and the answer is one of 01's numbers
+pub record Kept (mem j : List ℕ) (o : Outcome) : Type 0 where
+  pub count : length (o .machine .regs) ≡ registers
+  pub memory : length (o .memory) ≡ length mem
+  pub journal : length (o .journal) ≡ length j
+  pub known : o .answer ≤ 12
+
+-- where the call is refused: byte 0, and machine, memory and journal as before
+pub record Refusing (m : Machine) (mem j : List ℕ) (o : Outcome) : Type 0 where
+  pub same : (o .answer ≡ 0 → ⊥) → o ≡ refused (o .answer) m mem j
+
+-- no journal word is written
+pub record Unwritten (j : List ℕ) (o : Outcome) : Type 0 where
+  pub journal : o .journal ≡ j

@@ -1,0 +1,55 @@
+-- A walk along a timer queue comes again to a pointer value that it has passed (01, Answers by number, 11; DECISIONS 27).
+use mathlib.Core.Path.{_≡_}
+use mathlib.Core.Bool.{Bool, true, false}
+use mathlib.Core.List.{List, [], _∷_}
+use Prim.Native.Nat.{ℕ}
+use lib.Dec.{eqb, leb}
+use lib.ListN.{length}
+use Rattle.rules.specs.Tests.{pick}
+use Rattle.rules.specs.Words.{atWord, index, later}
+use Rattle.rules.specs.Work.{Work, wptr, wordAt}
+use Rattle.rules.specs.Scheduling.{notProcess, tlinkS, timeS}
+
+-- p stands in the list
+abbrev pub has : ℕ → List ℕ → Bool
+has p [] = false
+has p (x ∷ xs) = pick (eqb p x) true (has p xs)
+
+-- what a walk comes to: it ends at a pointer value, or runs in a ring
+pub data Way : Type 0 where
+  end : ℕ → Way
+  round : Way
+
+-- `Walks next ends passed p r`: from the pointer value p, with those of the list passed, the walk comes to r
+pub data Walks (next : ℕ → ℕ) (ends : ℕ → Bool) : List ℕ → ℕ → Way → Type 0 where
+  again : {passed : List ℕ} {p : ℕ} → has p passed ≡ true → Walks next ends passed p round
+  stays : {passed : List ℕ} {p : ℕ} → has p passed ≡ false → ends p ≡ true → Walks next ends passed p (end p)
+  goes : {passed : List ℕ} {p : ℕ} {r : Way} → has p passed ≡ false → ends p ≡ false → Walks next ends (p ∷ passed) (next p) r → Walks next ends passed p r
+
+module _ (m : List ℕ) (w : Work) where
+  -- the next pointer value: the word at p's TLink.s, through the stores so far
+  abbrev pub nextPointer : ℕ → ℕ
+  nextPointer p = wordAt m (atWord p tlinkS) w
+
+  -- an address is outside memory: an access there is refused with 10, and nothing more is accessed
+  abbrev pub isOutside : ℕ → Bool
+  isOutside a = leb (length m) (index a)
+
+  -- insertion ends at p: it is NotProcess.p, its time is outside memory, the time to insert is not AFTER its time (the place is found), or
+  -- its link is outside memory
+  unfoldable pub insertEnds : ℕ → ℕ → Bool
+  insertEnds time p =
+      pick (eqb p notProcess) true
+      (pick (isOutside (atWord p timeS)) true
+      (pick (later time (wordAt m (atWord p timeS) w)) (isOutside (atWord p tlinkS)) true))
+
+  -- deletion ends at p: it is the process itself, or its link is outside memory
+  unfoldable pub deleteEnds : ℕ → Bool
+  deleteEnds p = pick (eqb p (wptr w)) true (isOutside (atWord p tlinkS))
+
+  -- from the pointer value p, an insertion of a time, and a deletion, come again to a pointer value that they have passed
+  abbrev pub InsertRing : ℕ → ℕ → Type 0
+  InsertRing time p = Walks nextPointer (insertEnds time) [] p round
+
+  abbrev pub DeleteRing : ℕ → Type 0
+  DeleteRing p = Walks nextPointer deleteEnds [] p round

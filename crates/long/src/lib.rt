@@ -1,0 +1,180 @@
+// Arithmetic of two words: operations that touch no memory, on the seven registers by value. Each is the code of the definition of its name.
+use names::MINUS_ONE;
+use rules::Attempt;
+use rules::Core;
+use stack::checks::error_if;
+use stack::checks::set_error_flag;
+use stack::logic::goes;
+use stack::logic::halts;
+use stack::signed::biased;
+use stack::signed::overflow_check;
+use stack::signed::word_of;
+ghost use mathlib.Core.Path.{_≡_};
+ghost use Prim.Native.Nat.{_/_, _%_, _^_};
+ghost use Rattle.rules.specs.Stack as rules;
+ghost use Rattle.rules.specs.Core as core;
+
+// A := low; B := high.
+pub fn split(low: u32, high: u32, s: Core) -> Core
+    ensures { λ r. ⌜ r ≡ core.withA low (core.withB high s) ⌝ }
+{
+    let mut t = s;
+    t.a = low;
+    t.b = high;
+    t
+}
+
+// Two words as one number.
+pub fn double(high: u32, low: u32) -> u64
+    ensures { λ r. ⌜ r ≡ rules.double high low ⌝ }
+{
+    high as u64 * 0x1_0000_0000 + low as u64
+}
+
+pub fn low_word(v: u64) -> u32
+    ensures { λ r. ⌜ r ≡ v % 2 ^ 32 ⌝ }
+{
+    (v % 0x1_0000_0000) as u32
+}
+
+pub fn high_word(v: u64) -> u32
+    ensures { λ r. ⌜ r ≡ v / 2 ^ 32 ⌝ }
+{
+    (v / 0x1_0000_0000) as u32
+}
+
+pub fn xdbl(s: Core) -> Core
+    ensures { λ r. ⌜ r ≡ rules.xdbl s ⌝ }
+{
+    let mut t = s;
+    t.c = s.b;
+    if s.a < 0x8000_0000 {
+        t.b = 0;
+        return t;
+    }
+    t.b = MINUS_ONE;
+    t
+}
+
+// The upper word must be the copy of the lower word's sign.
+pub fn csngl(s: Core) -> Core
+    ensures { λ r. ⌜ r ≡ rules.csngl s ⌝ }
+{
+    let mut t = s;
+    t.b = s.c;
+    if s.a < 0x8000_0000 {
+        return error_if(s.b != 0, t);
+    }
+    error_if(s.b != MINUS_ONE, t)
+}
+
+pub fn carry_in(s: Core) -> u32
+    ensures { λ r. ⌜ r ≡ rules.carryIn s ⌝ }
+{
+    s.c & 1
+}
+
+pub fn ladd(s: Core) -> Core
+    ensures { λ r. ⌜ r ≡ rules.ladd s ⌝ }
+{
+    overflow_check(
+        biased(s.b) as u64 + biased(s.a) as u64 + carry_in(s) as u64,
+        0x1_0000_0000,
+        s,
+    )
+}
+
+pub fn lsub(s: Core) -> Core
+    ensures { λ r. ⌜ r ≡ rules.lsub s ⌝ }
+{
+    overflow_check(
+        biased(s.b) as u64,
+        biased(s.a) as u64 + carry_in(s) as u64,
+        s,
+    )
+}
+
+// The carry is 1 only where the sum is above 2^32: 000's test, to the letter.
+pub fn lsum(s: Core) -> Core
+    ensures { λ r. ⌜ r ≡ rules.lsum s ⌝ }
+{
+    let v = s.b as u64 + s.a as u64 + carry_in(s) as u64;
+    if v > 0x1_0000_0000 {
+        return split(low_word(v), 1, s);
+    }
+    split(low_word(v), 0, s)
+}
+
+pub fn ldiff(s: Core) -> Core
+    ensures { λ r. ⌜ r ≡ rules.ldiff s ⌝ }
+{
+    let m = s.a as u64 + carry_in(s) as u64;
+    if (s.b as u64) < m {
+        return split(word_of(s.b as u64, m), 1, s);
+    }
+    split(word_of(s.b as u64, m), 0, s)
+}
+
+pub fn lmul(s: Core) -> Core
+    ensures { λ r. ⌜ r ≡ rules.lmul s ⌝ }
+{
+    let v = s.b as u64 * s.a as u64 + s.c as u64;
+    split(low_word(v), high_word(v), s)
+}
+
+pub fn ldiv(s: Core) -> Core
+    ensures { λ r. ⌜ r ≡ rules.ldiv s ⌝ }
+{
+    if s.a <= s.c {
+        return set_error_flag(s);
+    }
+    let v = double(s.c, s.b);
+    split((v / s.a as u64) as u32, (v % s.a as u64) as u32, s)
+}
+
+// One place a turn.
+pub fn norm(s: Core) -> Core
+    ensures { λ r. ⌜ r ≡ rules.norm s ⌝ }
+{
+    let mut v = double(s.b, s.a);
+    let mut t = s;
+    if v == 0 {
+        t.c = 64;
+        return t;
+    }
+    let mut n: u32 = 0;
+    while v < 0x8000_0000_0000_0000 {
+        v = v * 2;
+        n += 1;
+    }
+    t.c = n;
+    split(low_word(v), high_word(v), t)
+}
+
+// The low word goes on top. The language has no shift by 64.
+pub fn lshl(s: Core) -> Attempt
+    ensures { λ r. ⌜ r ≡ rules.lshl s ⌝ }
+{
+    if 64 < s.a {
+        return halts(s);
+    }
+    if s.a == 64 {
+        return goes(split(0, 0, s));
+    }
+    let v = double(s.c, s.b) << s.a;
+    goes(split(low_word(v), high_word(v), s))
+}
+
+// The high word goes on top.
+pub fn lshr(s: Core) -> Attempt
+    ensures { λ r. ⌜ r ≡ rules.lshr s ⌝ }
+{
+    if 64 < s.a {
+        return halts(s);
+    }
+    if s.a == 64 {
+        return goes(split(0, 0, s));
+    }
+    let v = double(s.c, s.b) >> s.a;
+    goes(split(high_word(v), low_word(v), s))
+}

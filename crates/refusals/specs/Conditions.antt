@@ -1,0 +1,135 @@
+-- The table of 01, "Answers by number": each number's condition as a definition of its own, and for each call its numbers in the table's order.
+-- A call answers with the first number whose condition holds, and 0 where none does (proofs/Exactly.antt).
+use Prim.Native.Nat.{ℕ, _+_}
+use mathlib.Core.Bool.{Bool, true, false, _&&_, _||_, not}
+use mathlib.Core.List.{List, [], _∷_}
+use lib.Dec.{ltb, leb, eqb}
+use lib.ListN.{length, getD}
+use Rattle.rules.specs.Tests.{pick, ifEq, ifSet}
+use Rattle.rules.specs.Registers.{oreg, statusReg, flagsReg, pointerReg, countReg, channelReg, haltedFlag, idleFlag, activeBit, heldBit, linkChans, eventChannel}
+use Rattle.rules.specs.Words.{index}
+use Rattle.rules.specs.Memory.{touched}
+use Rattle.rules.specs.Work.{Work, begin}
+use Rattle.rules.specs.Timers.{timerReady}
+use Rattle.rules.specs.Channels.{requested}
+use Rattle.rules.specs.Journal.{recordLength, frameBad, lastPairs, lastStart, pairsAt, strays}
+use Rattle.rules.specs.Links as links
+use Rattle.rules.specs.Step as steps
+use Rattle.rules.specs.Calls.{sizeBad, codeBad, notOutput, notInput}
+use Rattle.rules.specs.declared.Machine.{Machine}
+
+-- the first number whose condition holds, 0 where none does
+unfoldable pub firstOf : List (ℕ × Bool) → ℕ
+firstOf [] = 0
+firstOf (e ∷ es) = pick (e .1) (e .0) (firstOf es)
+
+-- 4 JournalBad, in every call but fresh and clear
+abbrev pub frame : Machine → List ℕ → Bool
+frame m j = frameBad (length j) (m .depth) (m .used)
+
+-- 4 JournalBad, of undo with depth above 0: the last record is longer than used, or a pair's index is N or more
+abbrev pub lastTooLong : Machine → List ℕ → Bool
+lastTooLong m j = ltb (m .used) (recordLength (lastPairs j (m .used)))
+
+abbrev pub pairOutside : Machine → List ℕ → List ℕ → Bool
+pairOutside m mem j = strays (length mem) (pairsAt j (lastStart j (m .used)) (lastPairs j (m .used)))
+
+-- 5 NothingToUndo
+abbrev pub nothingToUndo : Machine → Bool
+nothingToUndo m = eqb (m .depth) 0
+
+-- 6 Halted
+abbrev pub isHalted : List ℕ → Bool
+isHalted r = ifSet haltedFlag (getD r flagsReg 0) true false
+
+-- 7 Idle: idle, and neither (a) nor (b) applies
+abbrev pub asked : List ℕ → Bool
+asked r = ltb (requested (begin r)) linkChans || timerReady 0 (begin r) || timerReady 1 (begin r)
+
+unfoldable pub isIdle : List ℕ → Bool
+isIdle r = ifSet idleFlag (getD r flagsReg 0) (ifEq (getD r oreg 0) 0 (not (asked r)) true) false
+
+-- 8 NotReady
+abbrev pub isMoving : ℕ → List ℕ → Bool
+isMoving c r = ifSet activeBit (getD r (channelReg c) 0) (ifEq (getD r (countReg c) 0) 0 false true) false
+
+abbrev pub isHeld : ℕ → List ℕ → Bool
+isHeld c r = ifSet heldBit (getD r (channelReg c) 0) true false
+
+abbrev pub takeNotReady : ℕ → List ℕ → Bool
+takeNotReady c r = not (isMoving c r)
+
+abbrev pub giveNotReady : ℕ → List ℕ → Bool
+giveNotReady c r = not (isMoving c r) && isHeld c r
+
+-- 10 Outside, of take and give: the byte at the pointer of a moving link
+abbrev pub pointerOutside : ℕ → List ℕ → List ℕ → Bool
+pointerOutside c r mem = isMoving c r && leb (length mem) (index (getD r (pointerReg c) 0))
+
+-- 12 JournalFull: the record of the worked-out call does not fit after used
+abbrev pub full : Machine → List ℕ → List ℕ → Work → Bool
+full m mem j w = ltb (length j) (m .used + recordLength (length (touched (length mem) (w .stored))))
+
+-- ---- each call's numbers with their conditions, in the table's order
+
+abbrev pub freshNumbers : List ℕ → List ℕ → List ℕ → List (ℕ × Bool)
+freshNumbers code mem j = (1, sizeBad mem j) ∷ (2, codeBad (length mem) (length code)) ∷ []
+
+module _ (m : Machine) (mem j : List ℕ) where
+  -- clear can meet only 1
+  abbrev pub clearNumbers : List (ℕ × Bool)
+  clearNumbers = (1, sizeBad mem j) ∷ []
+
+  abbrev pub tickNumbers : List (ℕ × Bool)
+  tickNumbers = (1, sizeBad mem j) ∷ (4, frame m j) ∷ (12, full m mem j (links.tick (begin (m .regs)))) ∷ []
+
+  abbrev pub eventNumbers : List (ℕ × Bool)
+  eventNumbers =
+      (1, sizeBad mem j)
+      ∷ (4, frame m j)
+      ∷ (8, giveNotReady eventChannel (m .regs))
+      ∷ (12, full m mem j (links.event (begin (m .regs))))
+      ∷ []
+
+  abbrev pub undoNumbers : List (ℕ × Bool)
+  undoNumbers =
+      (1, sizeBad mem j)
+      ∷ (4, frame m j)
+      ∷ (5, nothingToUndo m)
+      ∷ (4, lastTooLong m j)
+      ∷ (4, pairOutside m mem j)
+      ∷ []
+
+  -- the answer of what a step does where it is neither halted nor idle: 9, 10 or 11 by its accesses in 000's order, else 0
+  abbrev pub ownAnswer : ℕ
+  ownAnswer = steps.choose mem (begin (m .regs)) .answer
+
+  abbrev pub stepNumbers : List (ℕ × Bool)
+  stepNumbers =
+      (1, sizeBad mem j)
+      ∷ (4, frame m j)
+      ∷ (6, isHalted (m .regs))
+      ∷ (7, isIdle (m .regs))
+      ∷ (ownAnswer, not (eqb ownAnswer 0))
+      ∷ (12, full m mem j (steps.step mem (begin (m .regs))))
+      ∷ []
+
+abbrev pub takeNumbers : ℕ → Machine → List ℕ → List ℕ → List (ℕ × Bool)
+takeNumbers c m mem j =
+    (1, sizeBad mem j)
+    ∷ (3, notOutput c)
+    ∷ (4, frame m j)
+    ∷ (8, takeNotReady c (m .regs))
+    ∷ (10, pointerOutside c (m .regs) mem)
+    ∷ (12, full m mem j (links.take mem c (begin (m .regs))))
+    ∷ []
+
+abbrev pub giveNumbers : ℕ → ℕ → Machine → List ℕ → List ℕ → List (ℕ × Bool)
+giveNumbers c byte m mem j =
+    (1, sizeBad mem j)
+    ∷ (3, notInput c)
+    ∷ (4, frame m j)
+    ∷ (8, giveNotReady c (m .regs))
+    ∷ (10, pointerOutside c (m .regs) mem)
+    ∷ (12, full m mem j (links.give mem c byte (begin (m .regs))))
+    ∷ []

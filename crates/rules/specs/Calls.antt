@@ -1,0 +1,199 @@
+-- The eight public calls: from any machine, memory, journal and arguments to the answer, the byte, and what machine, memory and journal are
+-- afterwards. Each call's checks run in the order of 01's table (Answers by number).
+use Prim.Native.Nat.{ℕ, zero, suc, _+_, _-_, _*_, _/_, _%_}
+use mathlib.Core.Bool.{Bool, true, false, _||_}
+use mathlib.Core.List.{List, [], _∷_, _++_}
+use lib.Bits.{bitOr}
+use lib.Dec.{ltb, leb, eqb}
+use lib.ListN.{length, getD, set, replicate}
+use lib.Seq.{sets}
+use Rattle.rules.specs.Tests.{pick, ifLt, ifEq}
+use Rattle.rules.specs.Registers.{registers, iptrReg, wdescReg, fptrReg}
+use Rattle.rules.specs.Memory.{touched, stores}
+use Rattle.rules.specs.Work.{Work, begin}
+use Rattle.rules.specs.Scheduling.{notProcess, memStart, memStartWord}
+use Rattle.rules.specs.Links as links
+use Rattle.rules.specs.Step as steps
+use Rattle.rules.specs.Journal.{recordLength, recordOf, frameBad, lastPairs, lastStart, lastRegs, pairsAt, writeBack, strays}
+use Rattle.rules.specs.declared.Machine.{Machine}
+use Rattle.rules.specs.declared.Reply.{Reply}
+use Rattle.rules.specs.declared.Answer.{Answer}
+use Rattle.rules.specs.declared.Answer.the-variants.{Done, Size, CodeSize, BadChannel, JournalBad, NothingToUndo, Halted, Idle, NotReady, Unlisted, Outside, Stop, JournalFull}
+
+-- ---- answers: 01's number of each; 0 is accepted
+
+unfoldable pub numberOf : Answer → ℕ
+numberOf Done = 0
+numberOf Size = 1
+numberOf CodeSize = 2
+numberOf BadChannel = 3
+numberOf JournalBad = 4
+numberOf NothingToUndo = 5
+numberOf Halted = 6
+numberOf Idle = 7
+numberOf NotReady = 8
+numberOf Unlisted = 9
+numberOf Outside = 10
+numberOf Stop = 11
+numberOf JournalFull = 12
+
+-- what a call comes to
+pub record Outcome : Type 0 where
+  pub answer : ℕ
+  pub byte : ℕ
+  pub machine : Machine
+  pub memory : List ℕ
+  pub journal : List ℕ
+
+-- what the code of a call hands back: its reply, and the lent words as they then are
+abbrev pub outcomeOf : Reply → List ℕ → List ℕ → Outcome
+outcomeOf r mem j =
+    record { answer = numberOf (r .answer); byte = r .byte; machine = r .machine; memory = mem; journal = j }
+
+-- a refusal alters nothing
+abbrev pub refused : ℕ → Machine → List ℕ → List ℕ → Outcome
+refused n m mem j = record { answer = n; byte = 0; machine = m; memory = mem; journal = j }
+
+abbrev pub machineOf : List ℕ → ℕ → ℕ → Machine
+machineOf regs depth used = record { regs = regs; depth = depth; used = used }
+
+-- ---- Size: two predicates, memory and journal
+
+unfoldable pub memoryBad : ℕ → Bool
+memoryBad n = ltb n 64 || ltb 16384 n
+
+unfoldable pub journalBad : ℕ → Bool
+journalBad n = ltb 65536 n
+
+unfoldable pub sizeBad : List ℕ → List ℕ → Bool
+sizeBad mem j = memoryBad (length mem) || journalBad (length j)
+
+-- ---- step, tick, take, give, event
+
+-- an accepted call, if its record fits after used
+unfoldable pub recorded : Machine → List ℕ → List ℕ → ℕ → List ℕ → List ℕ → List ℕ → Outcome
+recorded m mem j byte regs ks after =
+    ifLt (length j) (m .used + recordLength (length ks)) (refused 12 m mem j)
+    (record {
+      answer = 0;
+      byte = byte;
+      machine = machineOf regs (m .depth + 1) (m .used + recordLength (length ks));
+      memory = after;
+      journal = sets j (m .used) (recordOf mem (m .regs) ks);
+    })
+
+-- what worked-out work comes to
+unfoldable pub settled : Machine → List ℕ → List ℕ → ℕ → Work → Outcome
+settled m mem j byte w =
+    ifEq (w .answer) 0
+    (recorded m mem j byte (w .regs) (touched (length mem) (w .stored)) (stores mem (w .stored)))
+    (refused (w .answer) m mem j)
+
+-- the checks before a call's own: Size, BadChannel, JournalBad
+unfoldable pub checked : Bool → Machine → List ℕ → List ℕ → Outcome → Outcome
+checked badChannel m mem j o =
+    pick (sizeBad mem j) (refused 1 m mem j)
+    (pick badChannel (refused 3 m mem j)
+    (pick (frameBad (length j) (m .depth) (m .used)) (refused 4 m mem j) o))
+
+-- an output link, an input link
+unfoldable pub notOutput : ℕ → Bool
+notOutput c = leb 4 c
+
+unfoldable pub notInput : ℕ → Bool
+notInput c = ltb c 4 || leb 8 c
+
+unfoldable pub step : Machine → List ℕ → List ℕ → Outcome
+step m mem j = checked false m mem j (settled m mem j 0 (steps.step mem (begin (m .regs))))
+
+unfoldable pub tick : Machine → List ℕ → List ℕ → Outcome
+tick m mem j = checked false m mem j (settled m mem j 0 (links.tick (begin (m .regs))))
+
+unfoldable pub take : ℕ → Machine → List ℕ → List ℕ → Outcome
+take c m mem j =
+    checked (notOutput c) m mem j
+    (settled m mem j (links.taken mem c (begin (m .regs))) (links.take mem c (begin (m .regs))))
+
+unfoldable pub give : ℕ → ℕ → Machine → List ℕ → List ℕ → Outcome
+give c byte m mem j = checked (notInput c) m mem j (settled m mem j 0 (links.give mem c byte (begin (m .regs))))
+
+unfoldable pub event : Machine → List ℕ → List ℕ → Outcome
+event m mem j = checked false m mem j (settled m mem j 0 (links.event (begin (m .regs))))
+
+-- ---- undo (01, The journal)
+
+unfoldable pub undone : Machine → List ℕ → List ℕ → List (ℕ × ℕ) → Outcome
+undone m mem j pairs =
+    pick (strays (length mem) pairs) (refused 4 m mem j)
+    (record {
+      answer = 0;
+      byte = 0;
+      machine = machineOf (lastRegs j (m .used)) (m .depth - 1) (lastStart j (m .used));
+      memory = writeBack mem pairs;
+      journal = j;
+    })
+
+unfoldable pub undoLast : Machine → List ℕ → List ℕ → Outcome
+undoLast m mem j =
+    ifLt (m .used) (recordLength (lastPairs j (m .used))) (refused 4 m mem j)
+    (undone m mem j (pairsAt j (lastStart j (m .used)) (lastPairs j (m .used))))
+
+unfoldable pub undo : Machine → List ℕ → List ℕ → Outcome
+undo m mem j = checked false m mem j (ifEq (m .depth) 0 (refused 5 m mem j) (undoLast m mem j))
+
+-- ---- clear: empties the journal, nothing else changes
+
+unfoldable pub clear : Machine → List ℕ → List ℕ → Outcome
+clear m mem j =
+    pick (sizeBad mem j) (refused 1 m mem j)
+    (record { answer = 0; byte = 0; machine = machineOf (m .regs) 0 0; memory = mem; journal = j })
+
+-- ---- fresh (01, Memory and registers)
+
+-- words that n bytes of code take
+abbrev pub codeWords : ℕ → ℕ
+codeWords n = (n + 3) / 4
+
+-- word k of the code, 0 past its end; byte 0 is the least significant
+unfoldable pub codeWord : List ℕ → ℕ → ℕ
+codeWord code k =
+    getD code (4 * k) 0 + 256 * getD code (4 * k + 1) 0 + 65536 * getD code (4 * k + 2) 0 + 16777216 * getD code (4 * k + 3) 0
+
+-- word i of a fresh memory
+unfoldable pub freshWord : List ℕ → ℕ → ℕ
+freshWord code i = ifLt i 12 notProcess (ifLt i memStartWord 0 (codeWord code (i - memStartWord)))
+
+-- the n words from i on
+unfoldable pub freshMemory : List ℕ → ℕ → ℕ → List ℕ
+freshMemory code i zero = []
+freshMemory code i (suc n) = freshWord code i ∷ freshMemory code (i + 1) n
+
+-- Wptr is the first word boundary at or after the end of the code, priority low
+unfoldable pub freshRegs : ℕ → List ℕ
+freshRegs n =
+    set
+    (set
+    (set (set (replicate registers 0) iptrReg memStart) wdescReg (bitOr (memStart + 4 * codeWords n) 1))
+    (fptrReg 0)
+    notProcess)
+    (fptrReg 1)
+    notProcess
+
+-- CodeSize: no code, or no whole word left after it
+unfoldable pub codeBad : ℕ → ℕ → Bool
+codeBad size n = eqb n 0 || leb size (memStartWord + codeWords n)
+
+abbrev pub noMachine : Machine
+noMachine = machineOf (replicate registers 0) 0 0
+
+unfoldable pub fresh : List ℕ → List ℕ → List ℕ → Outcome
+fresh code mem j =
+    pick (sizeBad mem j) (refused 1 noMachine mem j)
+    (pick (codeBad (length mem) (length code)) (refused 2 noMachine mem j)
+    (record {
+      answer = 0;
+      byte = 0;
+      machine = machineOf (freshRegs (length code)) 0 0;
+      memory = freshMemory code 0 (length mem);
+      journal = j;
+    }))

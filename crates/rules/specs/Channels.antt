@@ -1,0 +1,248 @@
+-- Channels, soft and hard (000 1.8, 1.10, 1.11; 01, Links, clocks, slice), and alternatives.
+use Prim.Native.Nat.{ℕ, zero, suc, _+_, _-_, _*_, _^_}
+use mathlib.Core.List.{List}
+use lib.Bits.{bitAnd, bitOr}
+use Rattle.rules.specs.Tests.{pick, ifLt, ifLe, ifEq, ifSet}
+use Rattle.rules.specs.Words.{atByte, atWord, index, heldByte, clearBits}
+use Rattle.rules.specs.Core.{wptrOf}
+use Rattle.rules.specs.Registers.{iptrReg, wdescReg, areg, breg, creg, pointerReg, countReg, channelReg, activeBit, enabledBit, heldBit, runRequest, readyRequest, linkChans, eventChannel}
+use Rattle.rules.specs.Work.{Work, reg, put, raise, lower, wptr, gotoSNP, stop, refuse, wordAt, loadWord, rIndexWord, wIndexWord, transfer}
+use Rattle.rules.specs.Scheduling.{notProcess, enabling, waiting, ready, noneSelected, portBase, stateS, pointerS, saveIptr, run, wait}
+use Rattle.rules.specs.Data.{moveDone}
+use Rattle.rules.specs.Timers.{dropB, isThisSelectedProcess}
+use Rattle.rules.specs.Links.{eventMeets, receive}
+
+-- ---- requests
+
+-- of the n channels from c on, the lowest with a run or a ready request; 9 where there is none
+unfoldable pub requestFrom : ℕ → ℕ → Work → ℕ
+requestFrom c zero w = linkChans
+requestFrom c (suc n) w =
+    ifSet (runRequest + readyRequest) (reg (channelReg c) w) c (requestFrom (suc c) n w)
+
+unfoldable pub requested : Work → ℕ
+requested w = requestFrom 0 linkChans w
+
+-- starting a transfer sets pointer, count and active; the other bits stay (DECISIONS 31)
+unfoldable pub startTransfer : ℕ → Work → Work
+startTransfer c w =
+    raise (channelReg c) activeBit (put (countReg c) (reg areg w) (put (pointerReg c) (reg creg w) w))
+
+-- the registers for a message to or from the partner's pointer (000 1.10, Input and Output)
+unfoldable pub inputRegs : ℕ → Work → Work
+inputRegs sourcePtr w = put creg sourcePtr (put breg (reg creg w) w)
+
+module _ (m : List ℕ) where
+  -- ---- PROC HandleChannelRequest
+
+  unfoldable pub runContent : ℕ → ℕ → Work → Work
+  runContent hc content w =
+      ifEq content notProcess w (run m content (wIndexWord m portBase hc notProcess w))
+
+  unfoldable pub handleRunRequest : ℕ → Work → Work
+  handleRunRequest hc w = runContent hc (wordAt m (atWord portBase hc) w) (loadWord m (atWord portBase hc) w)
+
+  unfoldable pub readyWaiting : ℕ → Work → Work
+  readyWaiting content w = run m content (wIndexWord m (wptrOf content) pointerS ready w)
+
+  unfoldable pub readyStatus : ℕ → ℕ → Work → Work
+  readyStatus content status w =
+      ifEq status enabling (wIndexWord m (wptrOf content) pointerS ready w)
+      (ifEq status ready w (ifEq status waiting (readyWaiting content w) (refuse stop w)))
+
+  unfoldable pub readyContent : ℕ → Work → Work
+  readyContent content w =
+      readyStatus content (wordAt m (atWord (wptrOf content) pointerS) w)
+      (loadWord m (atWord (wptrOf content) pointerS) w)
+
+  unfoldable pub handleReadyRequest : ℕ → Work → Work
+  handleReadyRequest hc w = readyContent (wordAt m (atWord portBase hc) w) (loadWord m (atWord portBase hc) w)
+
+  -- the run request is served before the ready request, and that bit is cleared (01, One step)
+  unfoldable pub handleChannelRequest : ℕ → Work → Work
+  handleChannelRequest hc w =
+      ifSet runRequest (reg (channelReg hc) w) (handleRunRequest hc (lower (channelReg hc) runRequest w))
+      (handleReadyRequest hc (lower (channelReg hc) readyRequest w))
+
+  -- ---- hard channels
+
+  -- PROC HardChannelInputOutputAction: the transfer is started
+  unfoldable pub hardStart : ℕ → Work → Work
+  hardStart c w = startTransfer c (saveIptr m (wIndexWord m (reg breg w) 0 (reg wdescReg w) w))
+
+  -- a count of 0 touches neither link nor channel word and the process goes on (DECISIONS 28)
+  unfoldable pub hardOutput : ℕ → Work → Work
+  hardOutput c w = ifEq (reg areg w) 0 w (gotoSNP (hardStart c w))
+
+  -- what a give or an event would do with what is held
+  unfoldable pub meetHeld : ℕ → Work → Work
+  meetHeld c w = ifEq c eventChannel (eventMeets w) (receive m c (heldByte (reg (channelReg c) w)) w)
+
+  unfoldable pub hardInputHeld : ℕ → Work → Work
+  hardInputHeld c w = gotoSNP (meetHeld c (lower (channelReg c) heldBit (hardStart c w)))
+
+  -- an `in` on channels 4 to 8 that finds something held (DECISIONS 29); any other transfer ignores held
+  unfoldable pub hardInputStart : ℕ → Work → Work
+  hardInputStart c w =
+      ifLt c 4 (gotoSNP (hardStart c w))
+      (ifSet heldBit (reg (channelReg c) w) (hardInputHeld c w) (gotoSNP (hardStart c w)))
+
+  unfoldable pub hardInput : ℕ → Work → Work
+  hardInput c w = ifEq (reg areg w) 0 w (hardInputStart c w)
+
+  -- ---- soft channels
+
+  -- PROC SaveRegsPendingSoftIO
+  unfoldable pub saveRegsPendingSoftIO : Work → Work
+  saveRegsPendingSoftIO w =
+      wIndexWord m (wptr w) pointerS (reg creg w) (saveIptr m (wIndexWord m (reg breg w) 0 (reg wdescReg w) w))
+
+  unfoldable pub softWait : Work → Work
+  softWait w = gotoSNP (saveRegsPendingSoftIO w)
+
+  -- the message is moved, then the partner runs (BlockMoveFinalStep); 000's parameters are references (DECISIONS 14)
+  unfoldable pub moveMessage : ℕ → Work → Work
+  moveMessage procDesc w =
+      run m procDesc (moveDone (reg areg w) (transfer m (reg creg w) (reg breg w) (reg areg w) w))
+
+  -- PROC Input
+  unfoldable pub inputReady : ℕ → Work → Work
+  inputReady procDesc w =
+      moveMessage procDesc
+      (inputRegs (wordAt m (atWord (wptrOf procDesc) pointerS) w) (loadWord m (atWord (wptrOf procDesc) pointerS) w))
+
+  unfoldable pub softInput : ℕ → Work → Work
+  softInput procDesc w =
+      ifEq procDesc notProcess (softWait w) (inputReady procDesc (wIndexWord m (reg breg w) 0 notProcess w))
+
+  unfoldable pub input : Work → Work
+  input w =
+      ifLt (index (reg breg w)) linkChans (hardInput (index (reg breg w)) w)
+      (softInput (wordAt m (atWord (reg breg w) 0) w) (loadWord m (atWord (reg breg w) 0) w))
+
+  -- PROC Output
+  unfoldable pub outputMessage : ℕ → ℕ → Work → Work
+  outputMessage procDesc destPtr w =
+      moveMessage procDesc (put breg destPtr (wIndexWord m (reg breg w) 0 notProcess w))
+
+  -- the scheduler's interlock for ALT
+  unfoldable pub outputEnabling : ℕ → Work → Work
+  outputEnabling procDesc w = softWait (wIndexWord m (wptrOf procDesc) pointerS ready w)
+
+  unfoldable pub outputWaiting : ℕ → Work → Work
+  outputWaiting procDesc w = run m procDesc (outputEnabling procDesc w)
+
+  unfoldable pub outputTo : ℕ → ℕ → Work → Work
+  outputTo procDesc destPtr w =
+      ifEq destPtr enabling (outputEnabling procDesc w)
+      (ifEq destPtr waiting (outputWaiting procDesc w)
+      (ifEq destPtr ready (softWait w) (outputMessage procDesc destPtr w)))
+
+  unfoldable pub outputReady : ℕ → Work → Work
+  outputReady procDesc w =
+      outputTo procDesc (wordAt m (atWord (wptrOf procDesc) pointerS) w)
+      (loadWord m (atWord (wptrOf procDesc) pointerS) w)
+
+  unfoldable pub softOutput : ℕ → Work → Work
+  softOutput procDesc w = ifEq procDesc notProcess (softWait w) (outputReady procDesc w)
+
+  unfoldable pub output : Work → Work
+  output w =
+      ifLt (index (reg breg w)) linkChans (hardOutput (index (reg breg w)) w)
+      (softOutput (wordAt m (atWord (reg breg w) 0) w) (loadWord m (atWord (reg breg w) 0) w))
+
+  -- ---- operations
+
+  -- output word, output byte: the count is given (DECISIONS 42)
+  unfoldable pub outputLocal : ℕ → Work → Work
+  outputLocal count w = output (put creg (wptr w) (put areg count (wIndexWord m (wptr w) 0 (reg areg w) w)))
+
+  abbrev pub outword : Work → Work
+  outword w = outputLocal 4 w
+
+  abbrev pub outbyte : Work → Work
+  outbyte w = outputLocal 1 w
+
+  -- reset channel: bits 0 to 4 of a hard channel's flags are cleared (01, Links, clocks, slice)
+  unfoldable pub resetHard : ℕ → Work → Work
+  resetHard c w = ifLt c linkChans (lower (channelReg c) 0x1F w) w
+
+  unfoldable pub resetch : Work → Work
+  resetch w =
+      put areg (wordAt m (atWord (reg areg w) 0) w)
+      (resetHard (index (reg areg w)) (wIndexWord m (reg areg w) 0 notProcess (loadWord m (atWord (reg areg w) 0) w)))
+
+  -- alt start
+  unfoldable pub alt : Work → Work
+  alt w = wIndexWord m (wptr w) stateS enabling w
+
+  -- alt wait
+  unfoldable pub altwtState : Work → Work
+  altwtState w = ifEq (reg areg w) ready w (wait m w)
+
+  unfoldable pub altwt : Work → Work
+  altwt w = altwtState (rIndexWord m (wptr w) stateS areg (wIndexWord m (wptr w) 0 noneSelected w))
+
+  -- State.s := Ready.p
+  unfoldable pub stateReady : Work → Work
+  stateReady w = wIndexWord m (wptr w) stateS ready w
+
+  -- enable skip
+  unfoldable pub enbs : Work → Work
+  enbs w = ifEq (reg areg w) 0 w (stateReady w)
+
+  -- disable skip
+  unfoldable pub dissGuard : Work → Work
+  dissGuard w = ifEq (reg breg w) 0 (put areg 0 w) (isThisSelectedProcess m w)
+
+  unfoldable pub diss : Work → Work
+  diss w = dropB (dissGuard w)
+
+  -- enable channel
+  unfoldable pub claimChannel : Work → Work
+  claimChannel w = wIndexWord m (reg breg w) 0 (reg wdescReg w) w
+
+  unfoldable pub enbcSoft : ℕ → Work → Work
+  enbcSoft content w =
+      ifEq content notProcess (claimChannel w) (ifEq content (reg wdescReg w) w (stateReady w))
+
+  -- a byte held is ready at once; with none held enabled is set (DECISIONS 30)
+  unfoldable pub enbcHard : ℕ → Work → Work
+  enbcHard c w =
+      ifSet heldBit (reg (channelReg c) w) (stateReady w) (claimChannel (raise (channelReg c) enabledBit w))
+
+  unfoldable pub enbcChannel : Work → Work
+  enbcChannel w =
+      ifLt (index (reg breg w)) linkChans (enbcHard (index (reg breg w)) w)
+      (enbcSoft (wordAt m (atWord (reg breg w) 0) w) (loadWord m (atWord (reg breg w) 0) w))
+
+  unfoldable pub enbcGuard : Work → Work
+  enbcGuard w = ifEq (reg areg w) 0 w (enbcChannel w)
+
+  unfoldable pub enbc : Work → Work
+  enbc w = dropB (enbcGuard w)
+
+  -- disable channel: on a soft one Breg is left with the channel word (DECISIONS 11)
+  unfoldable pub disclaim : Work → Work
+  disclaim w = put areg 0 (wIndexWord m (reg creg w) 0 notProcess w)
+
+  unfoldable pub discSoft : Work → Work
+  discSoft w =
+      ifEq (reg breg w) notProcess (put areg 0 w)
+      (ifEq (reg breg w) (reg wdescReg w) (disclaim w) (isThisSelectedProcess m w))
+
+  -- ready exactly when a byte is held; enabled and the ready request are cleared, after the store (DECISIONS 30)
+  unfoldable pub discAnswer : ℕ → Work → Work
+  discAnswer c w = ifSet heldBit (reg (channelReg c) w) (isThisSelectedProcess m w) (put areg 0 w)
+
+  unfoldable pub discHard : ℕ → Work → Work
+  discHard c w =
+      discAnswer c (lower (channelReg c) (enabledBit + readyRequest) (wIndexWord m (reg creg w) 0 notProcess w))
+
+  unfoldable pub discChannel : Work → Work
+  discChannel w =
+      ifLt (index (reg creg w)) linkChans (discHard (index (reg creg w)) w)
+      (discSoft (rIndexWord m (reg creg w) 0 breg w))
+
+  unfoldable pub disc : Work → Work
+  disc w = ifEq (reg breg w) 0 (put areg 0 w) (discChannel w)

@@ -1,0 +1,58 @@
+-- The journal (01, The journal).
+use Prim.Native.Nat.{ℕ, zero, suc, _+_, _-_, _*_}
+use mathlib.Core.Bool.{Bool, true, false, _||_}
+use mathlib.Core.List.{List, [], _∷_, _++_}
+use lib.Dec.{ltb}
+use lib.ListN.{length, getD, take, drop, set}
+use Rattle.rules.specs.Tests.{pick}
+use Rattle.rules.specs.Registers.{registers}
+
+-- how many words a record of n pairs takes: 46 and two for each
+abbrev pub recordLength : ℕ → ℕ
+recordLength pairs = registers + 1 + 2 * pairs
+
+-- the last word of a record, and the number of pairs that it tells
+abbrev pub lastWord : ℕ → ℕ
+lastWord pairs = pairs
+
+abbrev pub pairsTold : ℕ → ℕ
+pairsTold last = last
+
+-- each index with what the memory holds there
+unfoldable pub olds : List ℕ → List ℕ → List ℕ
+olds m [] = []
+olds m (i ∷ is) = i ∷ getD m i 0 ∷ olds m is
+
+-- the record of a call that touched the words ks, with memory and registers as before it
+unfoldable pub recordOf : List ℕ → List ℕ → List ℕ → List ℕ
+recordOf m regs ks = olds m ks ++ (regs ++ (lastWord (length ks) ∷ []))
+
+-- used above the journal's length, or the records of depth calls longer than used
+unfoldable pub frameBad : ℕ → ℕ → ℕ → Bool
+frameBad size depth used = ltb size used || ltb used (recordLength 0 * depth)
+
+-- ---- the last record, which ends at used
+
+unfoldable pub lastPairs : List ℕ → ℕ → ℕ
+lastPairs j used = pairsTold (getD j (used - 1) 0)
+
+unfoldable pub lastStart : List ℕ → ℕ → ℕ
+lastStart j used = used - recordLength (lastPairs j used)
+
+unfoldable pub lastRegs : List ℕ → ℕ → List ℕ
+lastRegs j used = take registers (drop (used - recordLength 0) j)
+
+-- n pairs of index and old value, from a place on
+unfoldable pub pairsAt : List ℕ → ℕ → ℕ → List (ℕ × ℕ)
+pairsAt j at zero = []
+pairsAt j at (suc n) = (getD j at 0, getD j (at + 1) 0) ∷ pairsAt j (at + 2) n
+
+-- written back from first to last
+unfoldable pub writeBack : List ℕ → List (ℕ × ℕ) → List ℕ
+writeBack m [] = m
+writeBack m (p ∷ ps) = writeBack (set m (p .0) (p .1)) ps
+
+-- a pair's index is not below size
+unfoldable pub strays : ℕ → List (ℕ × ℕ) → Bool
+strays size [] = false
+strays size (p ∷ ps) = pick (ltb (p .0) size) (strays size ps) true

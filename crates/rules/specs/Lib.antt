@@ -1,0 +1,17 @@
+pub mod Tests
+pub mod Words
+pub mod Core
+pub mod Stack
+pub mod Registers
+pub mod Memory
+pub mod Work
+pub mod Scheduling
+pub mod Data
+pub mod Timers
+pub mod Links
+pub mod Channels
+pub mod Operations
+pub mod Step
+pub mod Journal
+pub mod Calls
+pub mod Starred

@@ -1,0 +1,89 @@
+-- Links and the event channel, the clocks (01, Links, clocks, slice): what take, give, event and tick do, and what an `in` that finds something held does.
+use Prim.Native.Nat.{ℕ, _+_, _-_, _*_, _≤_}
+use mathlib.Core.List.{List}
+use lib.Bits.{bitAnd, bitOr}
+use Rattle.rules.specs.Tests.{pick, ifLt, ifLe, ifEq, ifSet}
+use Rattle.rules.specs.Words.{minus, atByte, setBits, clearBits, heldByte, withHeldByte}
+use Rattle.rules.specs.Stack.{clocksRun}
+use Rattle.rules.specs.Registers.{clockReg, prescalerReg, sliceReg, flagsReg, pointerReg, countReg, channelReg, activeBit, enabledBit, heldBit, runRequest, readyRequest, eventChannel}
+use Rattle.rules.specs.Work.{Work, reg, put, raise, lower, notReady, refuse, byteAt, loadByte, storeByte}
+use Rattle.rules.specs.Scheduling.{sliceLength}
+
+-- a link is moving when it is active and its count is not 0
+abbrev pub ifMoving : {A : Type 0} → ℕ → Work → A → A → A
+ifMoving c w x y = ifSet activeBit (reg (channelReg c) w) (ifEq (reg (countReg c) w) 0 y x) y
+
+-- active is cleared and the run request set
+unfoldable pub transferEnds : ℕ → Work → Work
+transferEnds c w = raise (channelReg c) runRequest (lower (channelReg c) activeBit w)
+
+unfoldable pub endAtZero : ℕ → Work → Work
+endAtZero c w = ifEq (reg (countReg c) w) 0 (transferEnds c w) w
+
+-- pointer grows by one, count falls by one, and at 0 the transfer ends
+unfoldable pub advance : ℕ → Work → Work
+advance c w =
+    endAtZero c
+    (put (countReg c) (atByte (reg (countReg c) w) (minus 1))
+    (put (pointerReg c) (atByte (reg (pointerReg c) w) 1) w))
+
+-- a link that is not moving holds a byte; enabled becomes the ready request
+unfoldable pub noticeHeld : ℕ → Work → Work
+noticeHeld c w =
+    ifSet enabledBit (reg (channelReg c) w)
+    (raise (channelReg c) readyRequest (lower (channelReg c) enabledBit w))
+    w
+
+unfoldable pub hold : ℕ → ℕ → Work → Work
+hold c byte w =
+    noticeHeld c (put (channelReg c) (setBits heldBit (withHeldByte byte (reg (channelReg c) w))) w)
+
+-- the event channel moves no data: one event meets a transfer of any count above 0
+unfoldable pub eventMeets : Work → Work
+eventMeets w = transferEnds eventChannel (put (countReg eventChannel) 0 w)
+
+-- with no transfer moving, held is set and the byte bits stay
+unfoldable pub eventHolds : Work → Work
+eventHolds w = noticeHeld eventChannel (raise (channelReg eventChannel) heldBit w)
+
+unfoldable pub event : Work → Work
+event w =
+    ifMoving eventChannel w (eventMeets w)
+    (ifSet heldBit (reg (channelReg eventChannel) w) (refuse notReady w) (eventHolds w))
+
+-- ---- tick
+
+unfoldable pub tickSlice : Work → Work
+tickSlice w = ifLt (reg sliceReg w) sliceLength (put sliceReg (reg sliceReg w + 1) w) w
+
+unfoldable pub tickPrescaler : Work → Work
+tickPrescaler w =
+    ifLe 63 (reg prescalerReg w)
+    (put (clockReg 1) (atByte (reg (clockReg 1) w) 1) (put prescalerReg 0 w))
+    (put prescalerReg (reg prescalerReg w + 1) w)
+
+unfoldable pub tickClocks : Work → Work
+tickClocks w = tickSlice (tickPrescaler (put (clockReg 0) (atByte (reg (clockReg 0) w) 1) w))
+
+unfoldable pub tick : Work → Work
+tick w = ifSet clocksRun (reg flagsReg w) (tickClocks w) w
+
+module _ (m : List ℕ) where
+  -- take: the byte at the pointer
+  unfoldable pub taken : ℕ → Work → ℕ
+  taken c w = byteAt m (reg (pointerReg c) w) w
+
+  unfoldable pub takeByte : ℕ → Work → Work
+  takeByte c w = advance c (loadByte m (reg (pointerReg c) w) w)
+
+  unfoldable pub take : ℕ → Work → Work
+  take c w = ifMoving c w (takeByte c w) (refuse notReady w)
+
+  -- a byte is stored at the pointer
+  unfoldable pub receive : ℕ → ℕ → Work → Work
+  receive c byte w = advance c (storeByte m (reg (pointerReg c) w) byte w)
+
+  unfoldable pub give : ℕ → ℕ → Work → Work
+  give c byte w =
+      ifMoving c w (receive c byte w)
+      (ifSet heldBit (reg (channelReg c) w) (refuse notReady w) (hold c byte w))

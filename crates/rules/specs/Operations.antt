@@ -1,0 +1,150 @@
+-- The sixteen functions and the built operations (000 1.11; 01, The part of the T414 that we build; DECISIONS 1). The built list is these tables and nothing else.
+use Prim.Native.Nat.{ℕ}
+use mathlib.Core.List.{List, [], _∷_}
+use Rattle.rules.specs.Tests.{look}
+use Rattle.rules.specs.Stack as stack
+use Rattle.rules.specs.Registers.{oreg, coreOf, systemOf}
+use Rattle.rules.specs.Work.{Work, reg, putCore, onCore, onAttempt, onBoth, unlisted, refuse}
+use Rattle.rules.specs.Scheduling as scheduling
+use Rattle.rules.specs.Data as loads
+use Rattle.rules.specs.Timers as timers
+use Rattle.rules.specs.Channels as channels
+use Rattle.rules.specs.declared.Core.{Core}
+use Rattle.rules.specs.declared.Attempt.{Attempt}
+use Rattle.rules.specs.declared.System.{System}
+use Rattle.rules.specs.declared.Both.{Both}
+
+-- what an instruction does, of the memory before the call
+abbrev pub Action : Type 0
+Action = List ℕ → Work → Work
+
+-- on the evaluation stack alone
+abbrev pub pure : (Core → Core) → Action
+pure f m w = onCore f w
+
+abbrev pub pureOrStop : (Core → Attempt) → Action
+pureOrStop f m w = onAttempt f w
+
+abbrev pub pureBoth : (Core → System → Both) → Action
+pureBoth f m w = onBoth f w
+
+abbrev pub loadTimer : Action
+loadTimer m w = putCore (stack.ldtimer (coreOf (w .regs)) (systemOf (w .regs))) w
+
+unfoldable pub operations : List (ℕ × Action)
+operations =
+    (0x00, pure stack.rev)
+    ∷ (0x01, loads.lb)
+    ∷ (0x02, pure stack.bsub)
+    ∷ (0x03, scheduling.endp)
+    ∷ (0x04, pure stack.diff)
+    ∷ (0x05, pure stack.add)
+    ∷ (0x06, pure stack.gcall)
+    ∷ (0x07, channels.input)
+    ∷ (0x08, pure stack.prod)
+    ∷ (0x09, pure stack.gt)
+    ∷ (0x0A, pure stack.wsub)
+    ∷ (0x0B, channels.output)
+    ∷ (0x0C, pure stack.sub)
+    ∷ (0x0D, scheduling.startp)
+    ∷ (0x0E, channels.outbyte)
+    ∷ (0x0F, channels.outword)
+    ∷ (0x10, pure stack.seterr)
+    ∷ (0x12, channels.resetch)
+    ∷ (0x13, pure stack.csub0)
+    ∷ (0x15, scheduling.stopp)
+    ∷ (0x16, pure stack.ladd)
+    ∷ (0x17, pureBoth stack.stlb)
+    ∷ (0x18, pureBoth stack.sthf)
+    ∷ (0x19, pure stack.norm)
+    ∷ (0x1A, pure stack.ldiv)
+    ∷ (0x1B, pure stack.ldpi)
+    ∷ (0x1C, pureBoth stack.stlf)
+    ∷ (0x1D, pure stack.xdbl)
+    ∷ (0x1E, pure stack.ldpri)
+    ∷ (0x1F, pure stack.rem)
+    ∷ (0x20, loads.ret)
+    ∷ (0x21, scheduling.lend)
+    ∷ (0x22, loadTimer)
+    ∷ (0x29, pure stack.testerr)
+    ∷ (0x2A, pure stack.testpranal)
+    ∷ (0x2B, timers.tin)
+    ∷ (0x2C, pure stack.div)
+    ∷ (0x2E, timers.dist)
+    ∷ (0x2F, channels.disc)
+    ∷ (0x30, channels.diss)
+    ∷ (0x31, pure stack.lmul)
+    ∷ (0x32, pure stack.bitnot)
+    ∷ (0x33, pure stack.xor)
+    ∷ (0x34, pure stack.bcnt)
+    ∷ (0x35, pureOrStop stack.lshr)
+    ∷ (0x36, pureOrStop stack.lshl)
+    ∷ (0x37, pure stack.lsum)
+    ∷ (0x38, pure stack.lsub)
+    ∷ (0x39, scheduling.runp)
+    ∷ (0x3A, pure stack.xword)
+    ∷ (0x3B, loads.sb)
+    ∷ (0x3C, pure stack.gajw)
+    ∷ (0x3D, loads.savel)
+    ∷ (0x3E, loads.saveh)
+    ∷ (0x3F, pure stack.wcnt)
+    ∷ (0x40, pureOrStop stack.shr)
+    ∷ (0x41, pureOrStop stack.shl)
+    ∷ (0x42, pure stack.mint)
+    ∷ (0x43, channels.alt)
+    ∷ (0x44, channels.altwt)
+    ∷ (0x45, loads.altend)
+    ∷ (0x46, pure stack.and)
+    ∷ (0x47, timers.enbt)
+    ∷ (0x48, channels.enbc)
+    ∷ (0x49, channels.enbs)
+    ∷ (0x4A, loads.blockMove)
+    ∷ (0x4B, pure stack.or)
+    ∷ (0x4C, pure stack.csngl)
+    ∷ (0x4D, pure stack.ccnt1)
+    ∷ (0x4E, timers.talt)
+    ∷ (0x4F, pure stack.ldiff)
+    ∷ (0x50, pureBoth stack.sthb)
+    ∷ (0x51, timers.taltwt)
+    ∷ (0x52, pure stack.sum)
+    ∷ (0x53, pure stack.mul)
+    ∷ (0x54, pureBoth stack.sttimer)
+    ∷ (0x55, scheduling.stoperr)
+    ∷ (0x56, pure stack.cword)
+    ∷ (0x57, pure stack.clrhalterr)
+    ∷ (0x58, pure stack.sethalterr)
+    ∷ (0x59, pure stack.testhalterr)
+    ∷ []
+
+-- an operation outside the built list
+abbrev pub unlistedAction : Action
+unlistedAction m w = refuse unlisted w
+
+-- operate: the operation is the whole Oreg (DECISIONS 1)
+unfoldable pub operate : ℕ → Action
+operate code m w = look operations code unlistedAction m w
+
+abbrev pub opr : Action
+opr m w = operate (reg oreg w) m w
+
+-- the functions but for pfix and nfix, which keep Oreg (Step.antt)
+unfoldable pub functions : List (ℕ × Action)
+functions =
+    (0x0, scheduling.j)
+    ∷ (0x1, pure stack.ldlp)
+    ∷ (0x3, loads.ldnl)
+    ∷ (0x4, pure stack.ldc)
+    ∷ (0x5, pure stack.ldnlp)
+    ∷ (0x7, loads.ldl)
+    ∷ (0x8, pure stack.adc)
+    ∷ (0x9, loads.call)
+    ∷ (0xA, pure stack.cj)
+    ∷ (0xB, pure stack.ajw)
+    ∷ (0xC, pure stack.eqc)
+    ∷ (0xD, loads.stl)
+    ∷ (0xE, loads.stnl)
+    ∷ (0xF, opr)
+    ∷ []
+
+unfoldable pub function : ℕ → Action
+function code m w = look functions code unlistedAction m w

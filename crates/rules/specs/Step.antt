@@ -1,0 +1,60 @@
+-- One step (01, One step), as work on registers and memory.
+use Prim.Native.Nat.{ℕ, _/_, _^_}
+use mathlib.Core.List.{List}
+use Rattle.rules.specs.Tests.{pick, ifLt, ifEq, ifSet}
+use Rattle.rules.specs.Words.{atByte, withNibble}
+use Rattle.rules.specs.Core.{errorFlag, haltOnErrorBit}
+use Rattle.rules.specs.Stack.{pfix, nfix}
+use Rattle.rules.specs.Registers.{iptrReg, oreg, statusReg, flagsReg, idleFlag, haltedFlag, linkChans}
+use Rattle.rules.specs.Work.{Work, reg, put, raise, onCore, halted, idle, refuse, byteAt, fetchByte}
+use Rattle.rules.specs.Scheduling.{actOnSNP}
+use Rattle.rules.specs.Timers.{timerReady, handleTimerRequest}
+use Rattle.rules.specs.Channels.{requested, handleChannelRequest}
+use Rattle.rules.specs.Operations.{function}
+
+-- a step halts the machine exactly when the error flag was clear before it and is set after it, and HaltOnError is set after it
+unfoldable pub haltIfAsked : Work → Work
+haltIfAsked w = ifSet haltOnErrorBit (reg statusReg w) (raise flagsReg haltedFlag w) w
+
+unfoldable pub haltOnError : ℕ → Work → Work
+haltOnError before w =
+    ifSet errorFlag before w (ifSet errorFlag (reg statusReg w) (haltIfAsked w) w)
+
+-- Iptr grows by one, and Oreg takes the nibble in
+unfoldable pub fetched : ℕ → Work → Work
+fetched byte w = put oreg (withNibble byte (reg oreg w)) (put iptrReg (atByte (reg iptrReg w) 1) w)
+
+module _ (m : List ℕ) where
+  -- any function but a prefix: afterwards Oreg is 0, and a set GotoSNP bit is acted on
+  unfoldable pub execute : ℕ → Work → Work
+  execute code w = actOnSNP m (put oreg 0 (function code m w))
+
+  unfoldable pub decode : ℕ → Work → Work
+  decode code w = ifEq code 0x2 (onCore pfix w) (ifEq code 0x6 (onCore nfix w) (execute code w))
+
+  -- (c) one instruction byte is fetched
+  unfoldable pub instruction : Work → Work
+  instruction w =
+      decode (byteAt m (reg iptrReg w) w / 2 ^ 4)
+      (fetched (byteAt m (reg iptrReg w) w) (fetchByte m (reg iptrReg w) w))
+
+  unfoldable pub instructionUnlessIdle : Work → Work
+  instructionUnlessIdle w = ifSet idleFlag (reg flagsReg w) (refuse idle w) (instruction w)
+
+  -- (b) a timer, served by 000
+  unfoldable pub timersFirst : Work → Work
+  timersFirst w =
+      pick (timerReady 0 w) (actOnSNP m (handleTimerRequest m 0 w))
+      (pick (timerReady 1 w) (actOnSNP m (handleTimerRequest m 1 w)) (instructionUnlessIdle w))
+
+  -- (a) the lowest channel with a request
+  unfoldable pub channelsFirst : Work → Work
+  channelsFirst w =
+      ifLt (requested w) linkChans (actOnSNP m (handleChannelRequest m (requested w) w)) (timersFirst w)
+
+  -- (a) and (b) only between instructions
+  unfoldable pub choose : Work → Work
+  choose w = ifEq (reg oreg w) 0 (channelsFirst w) (instructionUnlessIdle w)
+
+  unfoldable pub step : Work → Work
+  step w = ifSet haltedFlag (reg flagsReg w) (refuse halted w) (haltOnError (reg statusReg w) (choose w))

@@ -1,0 +1,210 @@
+-- Timer queues (000 1.8, 1.10, 1.11). Insertion and deletion are done in one step (01, One step). A walk passes at most N + 1 pointer values
+-- before one comes again, so a budget of N + 2 turns runs out exactly where one does (DECISIONS 27; proved in the crate `laws`).
+use Prim.Native.Nat.{ℕ, zero, suc, _+_, _-_, _*_}
+use mathlib.Core.Bool.{Bool, false, not}
+use mathlib.Core.List.{List}
+use lib.Bits.{bitAnd, bitOr}
+use lib.ListN.{length}
+use Rattle.rules.specs.Tests.{pick, ifEq, ifSet}
+use Rattle.rules.specs.Words.{atByte, atWord, later}
+use Rattle.rules.specs.Registers.{iptrReg, wdescReg, areg, breg, creg, oreg, clockReg, tnextReg, flagsReg, tEnabled}
+use Rattle.rules.specs.Work.{Work, reg, put, raise, lower, wptr, priority, gotoSNP, stop, refuse, wordAt, loadWord, rIndexWord, wIndexWord}
+use Rattle.rules.specs.Scheduling.{notProcess, enabling, waiting, ready, timeSet, timeNotSet, noneSelected, timerBase, stateS, pointerS, tlinkS, timeS, saveIptr, run, wait}
+
+-- a timer is ready by 000 (1.8): enabled, and NOT (TNextReg AFTER ClockReg); timer 1 only for a low process (DECISIONS 16)
+unfoldable pub timerDue : ℕ → Work → Bool
+timerDue queue w =
+    ifSet (tEnabled queue) (reg flagsReg w) (not (later (reg (tnextReg queue) w) (reg (clockReg queue) w))) false
+
+unfoldable pub timerReady : ℕ → Work → Bool
+timerReady queue w = ifEq queue 0 (timerDue 0 w) (ifEq (priority w) 0 false (timerDue 1 w))
+
+-- Areg := Areg + 1; RestoreToRange (Areg)
+unfoldable pub nextTime : Work → Work
+nextTime w = put areg (atByte (reg areg w) 1) w
+
+-- Breg := Creg
+unfoldable pub dropB : Work → Work
+dropB w = put breg (reg creg w) w
+
+-- the address of the word TPtrLoc[queue]
+abbrev pub tptrLoc : ℕ → ℕ
+tptrLoc queue = atWord timerBase queue
+
+module _ (m : List ℕ) where
+  -- TNextReg[queue] := the time of a process; TEnabled[queue] := TRUE
+  unfoldable pub setNext : ℕ → ℕ → Work → Work
+  setNext queue process w = raise flagsReg (tEnabled queue) (rIndexWord m process timeS (tnextReg queue) w)
+
+  -- ---- PROC HandleTimerRequest (QueueId)
+
+  -- schedule the process as appropriate
+  unfoldable pub timedOut : ℕ → ℕ → Work → Work
+  timedOut queue front w = run m (bitOr front queue) (wIndexWord m front pointerS ready w)
+
+  unfoldable pub timerStatus : ℕ → ℕ → ℕ → Work → Work
+  timerStatus queue front status w =
+      ifEq status ready w (ifEq status waiting (timedOut queue front w) (refuse stop w))
+
+  unfoldable pub timerWake : ℕ → ℕ → Work → Work
+  timerWake queue front w =
+      timerStatus queue front (wordAt m (atWord front pointerS) w) (loadWord m (atWord front pointerS) w)
+
+  -- update queue
+  unfoldable pub timerNext : ℕ → ℕ → Work → Work
+  timerNext queue second w = ifEq second notProcess w (setNext queue second w)
+
+  unfoldable pub timerUnlink : ℕ → ℕ → ℕ → Work → Work
+  timerUnlink queue front second w =
+      timerNext queue second (wIndexWord m timerBase queue second (wIndexWord m front tlinkS timeSet w))
+
+  unfoldable pub timerFront : ℕ → ℕ → Work → Work
+  timerFront queue front w =
+      timerWake queue front
+      (timerUnlink queue front (wordAt m (atWord front tlinkS) w) (loadWord m (atWord front tlinkS) w))
+
+  unfoldable pub timerServe : ℕ → Work → Work
+  timerServe queue w = timerFront queue (wordAt m (tptrLoc queue) w) (loadWord m (tptrLoc queue) w)
+
+  unfoldable pub handleTimerRequest : ℕ → Work → Work
+  handleTimerRequest queue w = timerServe queue (lower flagsReg (tEnabled queue) w)
+
+  -- ---- insertion: Areg is the time, Breg previous, Creg subsequent
+
+  -- PROC InsertFinalStep
+  unfoldable pub insertNext : Work → Work
+  insertNext w = gotoSNP (setNext (priority w) (reg breg w) w)
+
+  unfoldable pub insertLink : ℕ → ℕ → Work → Work
+  insertLink previous subsequent w =
+      saveIptr m (wIndexWord m (wptr w) tlinkS subsequent (wIndexWord m previous 0 (wptr w) w))
+
+  unfoldable pub insertFinalStep : ℕ → ℕ → Work → Work
+  insertFinalStep previous subsequent w =
+      insertNext (rIndexWord m timerBase (priority w) breg (put creg subsequent (insertLink previous subsequent w)))
+
+  -- PROC InsertTest and InsertMiddleStep, until the place is found
+  unfoldable pub insertWalk : ℕ → ℕ → ℕ → Work → Work
+  insertWalk zero time previous w = refuse stop w
+  insertWalk (suc turns) time previous w =
+      ifEq (wordAt m previous w) notProcess
+      (insertFinalStep previous (wordAt m previous w) (loadWord m previous w))
+      (pick (later time (wordAt m (atWord (wordAt m previous w) timeS) (loadWord m previous w)))
+      (insertWalk turns time (atWord (wordAt m previous w) tlinkS)
+      (loadWord m (atWord (wordAt m previous w) timeS) (loadWord m previous w)))
+      (insertFinalStep previous (wordAt m previous w)
+      (loadWord m (atWord (wordAt m previous w) timeS) (loadWord m previous w))))
+
+  -- PROC InsertFirstStep
+  unfoldable pub insertFirstStep : Work → Work
+  insertFirstStep w =
+      insertWalk (length m + 2) (reg areg w) (tptrLoc (priority w))
+      (wIndexWord m (wptr w) timeS (reg areg w) (wIndexWord m (wptr w) stateS waiting w))
+
+  -- ---- deletion: Breg is previous, Creg subsequent
+
+  -- PROC DeleteFinalStep
+  unfoldable pub deleteNext : Work → Work
+  deleteNext w = ifEq (reg breg w) notProcess w (setNext (priority w) (reg breg w) w)
+
+  unfoldable pub deleteLink : ℕ → Work → Work
+  deleteLink previous w =
+      wIndexWord m (wptr w) tlinkS timeNotSet (wIndexWord m previous 0 (reg creg w) w)
+
+  unfoldable pub deleteFinalStep : ℕ → Work → Work
+  deleteFinalStep previous w =
+      deleteNext
+      (rIndexWord m timerBase (priority w) breg (deleteLink previous (rIndexWord m (wptr w) tlinkS creg w)))
+
+  -- PROC DeleteTest and DeleteMiddleStep, until the process is found
+  unfoldable pub deleteWalk : ℕ → ℕ → Work → Work
+  deleteWalk zero previous w = refuse stop w
+  deleteWalk (suc turns) previous w =
+      ifEq (wordAt m previous w) (wptr w) (deleteFinalStep previous (loadWord m previous w))
+      (deleteWalk turns (atWord (wordAt m previous w) tlinkS) (loadWord m previous w))
+
+  -- PROC DeleteFirstStep
+  unfoldable pub deleteFirstStep : Work → Work
+  deleteFirstStep w =
+      deleteWalk (length m + 2) (tptrLoc (priority w)) (lower flagsReg (tEnabled (priority w)) w)
+
+  -- ---- PROC IsThisSelectedProcess
+
+  unfoldable pub selectFirst : ℕ → Work → Work
+  selectFirst status w = ifEq status noneSelected (put areg 1 (wIndexWord m (wptr w) 0 (reg areg w) w)) (put areg 0 w)
+
+  unfoldable pub isThisSelectedProcess : Work → Work
+  isThisSelectedProcess w =
+      selectFirst (wordAt m (atWord (wptr w) 0) w) (loadWord m (atWord (wptr w) 0) w)
+
+  -- ---- operations
+
+  -- timer input
+  unfoldable pub tin : Work → Work
+  tin w = pick (later (reg (clockReg (priority w)) w) (reg areg w)) w (insertFirstStep (nextTime w))
+
+  -- timer alt start
+  unfoldable pub talt : Work → Work
+  talt w = wIndexWord m (wptr w) stateS enabling (wIndexWord m (wptr w) tlinkS timeNotSet w)
+
+  -- timer alt wait: Creg is the state, then Breg the TLink, then Areg the time (DECISIONS 10)
+  unfoldable pub timeNow : Work → Work
+  timeNow w = wIndexWord m (wptr w) timeS (reg (clockReg (priority w)) w) w
+
+  unfoldable pub taltwtTime : Work → Work
+  taltwtTime w =
+      pick (later (reg (clockReg (priority w)) w) (reg areg w))
+      (timeNow (wIndexWord m (wptr w) stateS ready w))
+      (insertFirstStep (nextTime w))
+
+  unfoldable pub taltwtLink : Work → Work
+  taltwtLink w =
+      ifEq (reg breg w) timeNotSet (wait m w)
+      (ifEq (reg breg w) timeSet (taltwtTime (rIndexWord m (wptr w) timeS areg w)) (refuse stop w))
+
+  unfoldable pub taltwtState : Work → Work
+  taltwtState w =
+      ifEq (reg creg w) ready (timeNow w) (taltwtLink (rIndexWord m (wptr w) tlinkS breg w))
+
+  unfoldable pub taltwt : Work → Work
+  taltwt w = taltwtState (rIndexWord m (wptr w) stateS creg (wIndexWord m (wptr w) 0 noneSelected w))
+
+  -- enable timer
+  unfoldable pub enbtFirst : Work → Work
+  enbtFirst w = wIndexWord m (wptr w) timeS (reg breg w) (wIndexWord m (wptr w) tlinkS timeSet w)
+
+  unfoldable pub enbtEarlier : ℕ → Work → Work
+  enbtEarlier time w = pick (later time (reg breg w)) (wIndexWord m (wptr w) timeS (reg breg w) w) w
+
+  unfoldable pub enbtLink : ℕ → Work → Work
+  enbtLink link w =
+      ifEq link timeNotSet (enbtFirst w)
+      (ifEq link timeSet
+      (enbtEarlier (wordAt m (atWord (wptr w) timeS) w) (loadWord m (atWord (wptr w) timeS) w))
+      (refuse stop w))
+
+  unfoldable pub enbtGuard : Work → Work
+  enbtGuard w =
+      ifEq (reg areg w) 0 w
+      (enbtLink (wordAt m (atWord (wptr w) tlinkS) w) (loadWord m (atWord (wptr w) tlinkS) w))
+
+  unfoldable pub enbt : Work → Work
+  enbt w = dropB (enbtGuard w)
+
+  -- disable timer
+  unfoldable pub distReady : ℕ → Work → Work
+  distReady time w = pick (later time (reg creg w)) (isThisSelectedProcess w) (put areg 0 w)
+
+  unfoldable pub distSet : ℕ → Work → Work
+  distSet link w =
+      ifEq link timeSet
+      (distReady (wordAt m (atWord (wptr w) timeS) w) (loadWord m (atWord (wptr w) timeS) w))
+      (put areg 0 (deleteFirstStep w))
+
+  unfoldable pub distLink : ℕ → Work → Work
+  distLink link w = ifEq link timeNotSet (put areg 0 w) (distSet link w)
+
+  unfoldable pub dist : Work → Work
+  dist w =
+      ifEq (reg breg w) 0 (put areg 0 w)
+      (distLink (wordAt m (atWord (wptr w) tlinkS) w) (loadWord m (atWord (wptr w) tlinkS) w))

@@ -1,0 +1,49 @@
+use Rattle.rules.proofs.Tests.{yes-eq, no-eq}
+use Rattle.rules.specs.Work.{transfer, settleMove}
+use borrow.Author.Needs.{needs}
+use Rattle.store.proofs.transfer.Statement.{statement}
+use Rattle.store.proofs.transfer.Tie as tie
+
+returns : tie.Need-returns
+unfolding transfer
+returns c = (rw (yes-eq (c .if1 .taken)), search needs)
+
+move-outside-requires : tie.Need-move-outside-requires
+move-outside-requires c κs = search needs
+
+offset-requires : tie.Need-offset-requires
+offset-requires c κs = search needs
+
+offset-requires-2 : tie.Need-offset-requires-2
+offset-requires-2 c κs = search needs
+
+append-move-requires : tie.Need-append-move-requires
+append-move-requires c κs = search needs
+
+returns-2 : tie.Need-returns-2
+unfolding transfer settleMove
+returns-2 c =
+    let F = c .before .before .before in
+    (rw (no-eq (F .before .before .before .if1 .left), ← F .before .before .move-outside .ensures, yes-eq (F .if2 .taken), ← c .before .before .offset .ensures, ← c .before .offset2 .ensures) (c .append-move .ensures .0), search needs)
+
+refuse-at-requires : tie.Need-refuse-at-requires
+refuse-at-requires c κs = search needs
+
+returns-3 : tie.Need-returns-3
+unfolding transfer settleMove
+returns-3 c =
+    let F = c .before in
+    (rw (no-eq (F .before .before .before .if1 .left), ← F .before .before .move-outside .ensures, no-eq (F .if2 .left)) (c .refuse-at .ensures .0), search needs)
+
+pub transfer-spec : {M : Type 1} → statement M
+transfer-spec =
+    tie.close
+    (tie.spec
+    returns
+    move-outside-requires
+    offset-requires
+    offset-requires-2
+    append-move-requires
+    returns-2
+    refuse-at-requires
+    returns-3)

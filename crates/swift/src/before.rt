@@ -1,0 +1,76 @@
+// Whether anything comes before an instruction.
+use names::CHANNEL_REG;
+use names::CLOCK_REG;
+use names::FLAGS_REG;
+use names::GOTO_SNP_BIT;
+use names::HALTED_FLAG;
+use names::IDLE_FLAG;
+use names::OREG;
+use names::STATUS_REG;
+use names::TNEXT_REG;
+use rules::REGISTERS;
+ghost use mathlib.Core.Path.{_≡_};
+ghost use Prim.Native.Nat.{_<_};
+ghost use Rattle.rules.specs.Registers.{tEnabled};
+ghost use Rattle.swift.specs.Swift as swift;
+
+// A run request or a ready request.
+const REQUESTS: u32 = 24;
+
+// No channel has a request.
+fn calm(regs: [u32; REGISTERS]) -> bool
+    ensures { λ r. ⌜ r ≡ swift.calm 0 9 regs ⌝ }
+{
+    let mut c = 0;
+    while c < 9 {
+        if regs[CHANNEL_REG + 3 * c] & REQUESTS == 0 {
+            c += 1;
+        } else {
+            return false;
+        }
+    }
+    true
+}
+
+// A timer is enabled and its time has come.
+fn due(regs: [u32; REGISTERS], queue: usize, mask: u32) -> bool
+    requires { ⌜ (queue < 2) × (mask ≡ tEnabled queue) ⌝ }
+    ensures { λ r. ⌜ r ≡ swift.due queue regs ⌝ }
+{
+    if regs[FLAGS_REG] & mask == 0 {
+        return false;
+    }
+    !words::later(regs[TNEXT_REG + queue], regs[CLOCK_REG + queue])
+}
+
+// Between instructions: no request, no timer.
+fn unasked(regs: [u32; REGISTERS]) -> bool
+    ensures { λ r. ⌜ r ≡ swift.unasked regs ⌝ }
+{
+    if calm(regs) {
+        if due(regs, 0, 2) {
+            return false;
+        }
+        return !due(regs, 1, 4);
+    }
+    false
+}
+
+// Not halted, not idle, no process to be started; and between instructions unasked.
+pub fn quiet(regs: [u32; REGISTERS]) -> bool
+    ensures { λ r. ⌜ r ≡ swift.quiet regs ⌝ }
+{
+    if regs[FLAGS_REG] & HALTED_FLAG == 0 {
+        if regs[FLAGS_REG] & IDLE_FLAG == 0 {
+            if regs[STATUS_REG] & GOTO_SNP_BIT == 0 {
+                if regs[OREG] == 0 {
+                    return unasked(regs);
+                }
+                return true;
+            }
+            return false;
+        }
+        return false;
+    }
+    false
+}

@@ -1,0 +1,207 @@
+// The functions of common steps, on the seven registers after the fetch.
+use crate::Swift;
+use names::CLOCKS_RUN;
+use names::FLAGS_REG;
+use names::SLICE_LENGTH;
+use names::SLICE_REG;
+use rules::Core;
+use rules::REGISTERS;
+use stack::registers;
+ghost use mathlib.Core.Path.{_≡_};
+ghost use Rattle.swift.specs.Swift as swift;
+ghost use Rattle.rules.specs.Core as rules;
+
+// Left to the engine.
+pub fn cold() -> Swift
+    ensures { λ r. ⌜ r ≡ swift.cold ⌝ }
+{
+    let core = Core {
+        iptr: 0,
+        wdesc: 0,
+        a: 0,
+        b: 0,
+        c: 0,
+        oreg: 0,
+        status: 0,
+    };
+    Swift {
+        done: false,
+        core,
+        stores: false,
+        index: 0,
+        value: 0,
+    }
+}
+
+// Done; a prefix keeps Oreg.
+fn prefix(s: Core) -> Swift
+    ensures { λ r. ⌜ r ≡ swift.prefix s ⌝ }
+{
+    Swift {
+        done: true,
+        core: s,
+        stores: false,
+        index: 0,
+        value: 0,
+    }
+}
+
+// Done, with Oreg 0 afterwards.
+fn plain(s: Core) -> Swift
+    ensures { λ r. ⌜ r ≡ swift.plain s ⌝ }
+{
+    let mut t = s;
+    t.oreg = 0;
+    prefix(t)
+}
+
+fn storing(i: u32, v: u32, s: Core) -> Swift
+    ensures { λ r. ⌜ r ≡ swift.storing i v s ⌝ }
+{
+    let mut t = s;
+    t.oreg = 0;
+    Swift {
+        done: true,
+        core: t,
+        stores: true,
+        index: i,
+        value: v,
+    }
+}
+
+// What works on the evaluation stack alone: t is what it makes of the registers, and Status before is given.
+fn quick(status: u32, t: Core) -> Swift
+    ensures { λ r. ⌜ r ≡ swift.kept status (swift.plain t) ⌝ }
+{
+    if t.status == status {
+        return plain(t);
+    }
+    cold()
+}
+
+fn ldl(mem: &[u32], s: Core) -> Swift
+    ensures { λ r. ⌜ r ≡ swift.ldl (now (mem .entry)) s ⌝ }
+{
+    let i = words::index_of(words::at_word(words::wptr_of(s.wdesc), s.oreg));
+    let at = i as usize;
+    if at < mem.len() {
+        return plain(registers::push(mem[at], s));
+    }
+    cold()
+}
+
+fn ldnl(mem: &[u32], s: Core) -> Swift
+    ensures { λ r. ⌜ r ≡ swift.ldnl (now (mem .entry)) s ⌝ }
+{
+    let i = words::index_of(words::at_word(s.a, s.oreg));
+    let at = i as usize;
+    if at < mem.len() {
+        return plain(registers::with_a(mem[at], s));
+    }
+    cold()
+}
+
+fn stl(mem: &[u32], s: Core) -> Swift
+    ensures { λ r. ⌜ r ≡ swift.stl (now (mem .entry)) s ⌝ }
+{
+    let i = words::index_of(words::at_word(words::wptr_of(s.wdesc), s.oreg));
+    if (i as usize) < mem.len() {
+        return storing(i, s.a, registers::pop(s));
+    }
+    cold()
+}
+
+fn stnl(mem: &[u32], s: Core) -> Swift
+    ensures { λ r. ⌜ r ≡ swift.stnl (now (mem .entry)) s ⌝ }
+{
+    let i = words::index_of(words::at_word(s.a, s.oreg));
+    if (i as usize) < mem.len() {
+        return storing(i, s.b, registers::with_a(s.c, s));
+    }
+    cold()
+}
+
+// A slice ends at a jump: the process is low, the clocks run, and the slice is long.
+fn slices(regs: [u32; REGISTERS], s: Core) -> bool
+    ensures { λ r. ⌜ r ≡ swift.slices s regs ⌝ }
+{
+    if s.wdesc & 1 == 0 {
+        return false;
+    }
+    if regs[FLAGS_REG] & CLOCKS_RUN == 0 {
+        return false;
+    }
+    if SLICE_LENGTH <= regs[SLICE_REG] {
+        return true;
+    }
+    false
+}
+
+fn j(regs: [u32; REGISTERS], s: Core) -> Swift
+    ensures { λ r. ⌜ r ≡ swift.j regs s ⌝ }
+{
+    if slices(regs, s) {
+        return cold();
+    }
+    let mut t = s;
+    t.iptr = words::at_byte(s.iptr, s.oreg);
+    plain(t)
+}
+
+// The operations on the evaluation stack alone.
+fn operate(code: u32, s: Core) -> Swift
+    ensures { λ r. ⌜ r ≡ swift.operate code s ⌝ }
+{
+    match code {
+        0x00 => quick(s.status, stack::registers::rev(s)),
+        0x02 => quick(s.status, stack::logic::bsub(s)),
+        0x04 => quick(s.status, stack::arith::diff(s)),
+        0x05 => quick(s.status, stack::arith::add(s)),
+        0x06 => quick(s.status, stack::registers::gcall(s)),
+        0x08 => quick(s.status, stack::arith::prod(s)),
+        0x09 => quick(s.status, stack::arith::gt(s)),
+        0x0A => quick(s.status, stack::logic::wsub(s)),
+        0x0C => quick(s.status, stack::arith::sub(s)),
+        0x13 => quick(s.status, stack::checks::csub0(s)),
+        0x1B => quick(s.status, stack::registers::ldpi(s)),
+        0x1E => quick(s.status, stack::registers::ldpri(s)),
+        0x1F => quick(s.status, stack::arith::rem(s)),
+        0x2C => quick(s.status, stack::arith::div(s)),
+        0x32 => quick(s.status, stack::logic::bitnot(s)),
+        0x33 => quick(s.status, stack::logic::xor(s)),
+        0x34 => quick(s.status, stack::logic::bcnt(s)),
+        0x3C => quick(s.status, stack::registers::gajw(s)),
+        0x3F => quick(s.status, stack::logic::wcnt(s)),
+        0x42 => quick(s.status, stack::registers::mint(s)),
+        0x46 => quick(s.status, stack::logic::and(s)),
+        0x4B => quick(s.status, stack::logic::or(s)),
+        0x4D => quick(s.status, stack::checks::ccnt1(s)),
+        0x52 => quick(s.status, stack::arith::sum(s)),
+        0x53 => quick(s.status, stack::arith::mul(s)),
+        _ => cold(),
+    }
+}
+
+// One function; regs are all registers before the step.
+pub fn decode(mem: &[u32], regs: [u32; REGISTERS], code: u32, s: Core) -> Swift
+    ensures { λ r. ⌜ r ≡ swift.decode (now (mem .entry)) regs code s ⌝ }
+{
+    match code {
+        0x0 => j(regs, s),
+        0x1 => quick(s.status, stack::registers::ldlp(s)),
+        0x2 => prefix(stack::registers::pfix(s)),
+        0x3 => ldnl(mem, s),
+        0x4 => quick(s.status, stack::registers::ldc(s)),
+        0x5 => quick(s.status, stack::registers::ldnlp(s)),
+        0x6 => prefix(stack::registers::nfix(s)),
+        0x7 => ldl(mem, s),
+        0x8 => quick(s.status, stack::arith::adc(s)),
+        0xA => quick(s.status, stack::registers::cj(s)),
+        0xB => quick(s.status, stack::registers::ajw(s)),
+        0xC => quick(s.status, stack::registers::eqc(s)),
+        0xD => stl(mem, s),
+        0xE => stnl(mem, s),
+        0xF => operate(s.oreg, s),
+        _ => cold(),
+    }
+}

@@ -1,0 +1,86 @@
+-- The three demands, stated of the contracts of the eight public functions (specs/Contracts.antt) in one page. The proofs are the files named.
+--
+-- 1. TOTAL. Every call, handed anything at all, gives one of 01's answers; a refused one changes nothing.
+-- 2. EXACT. The contract determines the answer, the registers, depth, used and every lent word, and no second answer meets it; number n is
+--    answered exactly when 01's condition of n holds and that of no number before it.
+-- 3. REVERSIBLE. After any sequence the machine is what the accepted calls that have not been undone give; undoing leads back through it.
+--
+-- Assumes nothing.
+use mathlib.Core.Path.{_≡_}
+use mathlib.Core.List.{List, []}
+use mathlib.Core.Bool.{Bool}
+use Prim.Native.Nat.{ℕ, _≤_}
+use lib.ListN.{length, drop, replicate}
+use Rattle.rules.specs.Registers.{registers}
+use Rattle.rules.specs.Calls.{noMachine}
+use Rattle.rules.specs.declared.Machine.{Machine}
+use Rattle.rules.specs.declared.Reply.{Reply}
+use Rattle.refusals.specs.Conditions.{freshNumbers, stepNumbers, tickNumbers, takeNumbers, giveNumbers, eventNumbers, undoNumbers, clearNumbers}
+use Rattle.history.specs.Machine.{Act, undo}
+use Rattle.history.specs.T414.{Call, Whole, shown}
+use Rattle.theorems.specs.Contracts.{Contract, FreshContract, StepContract, TickContract, TakeContract, GiveContract, EventContract, UndoContract, ClearContract, OneAnswer, Total, RefusesCleanly}
+use Rattle.theorems.specs.Given.{AnswersExactly}
+use Rattle.theorems.specs.Chain.{left, Chain, stands, Moment, given, plain}
+use Rattle.theorems.proofs.Unique.{fresh-unique, step-unique, tick-unique, take-unique, give-unique, event-unique, undo-unique, clear-unique}
+use Rattle.theorems.proofs.Unique.{fresh-total, step-total, tick-total, take-total, give-total, event-total, undo-total, clear-total}
+use Rattle.theorems.proofs.Refused.{fresh-refused, step-refused, tick-refused, take-refused, give-refused, event-refused, undo-refused, clear-refused}
+use Rattle.theorems.proofs.Exactly.{fresh-exactly, step-exactly, tick-exactly, take-exactly, give-exactly, event-exactly, undo-exactly, clear-exactly}
+use Rattle.theorems.proofs.History.{public-history, public-undone}
+
+-- of one call: some result meets its contract, and no second one; it refuses exactly by its table, and cleanly (m is the machine before it)
+pub record Demands12 (C : Contract) (numbers : List ℕ → List ℕ → List (ℕ × Bool)) (m : Machine) : Type 0 where
+  pub total : Total C
+  pub refuses-cleanly : RefusesCleanly m C
+  pub one-answer : OneAnswer C
+  pub answers-exactly : AnswersExactly numbers C
+
+-- ---- demands 1 and 2, of the eight
+
+pub fresh-demands : (code : List ℕ) → Demands12 (FreshContract code) (freshNumbers code) noMachine
+fresh-demands code = record { total = fresh-total code; refuses-cleanly = fresh-refused code; one-answer = fresh-unique code; answers-exactly = fresh-exactly code }
+
+-- a machine has 45 registers, of any value; depth and used are any numbers
+module _ (m : Machine) (h : length (m .regs) ≡ registers) where
+  pub step-demands : Demands12 (StepContract m) (stepNumbers m) m
+  step-demands = record { total = step-total m h; refuses-cleanly = step-refused m; one-answer = step-unique m; answers-exactly = step-exactly m }
+
+  pub tick-demands : Demands12 (TickContract m) (tickNumbers m) m
+  tick-demands = record { total = tick-total m h; refuses-cleanly = tick-refused m; one-answer = tick-unique m; answers-exactly = tick-exactly m }
+
+  pub take-demands : (channel : ℕ) → Demands12 (TakeContract channel m) (takeNumbers channel m) m
+  take-demands channel = record { total = take-total m h channel; refuses-cleanly = take-refused m channel; one-answer = take-unique m channel; answers-exactly = take-exactly m channel }
+
+  pub give-demands : (channel byte : ℕ) → Demands12 (GiveContract channel byte m) (giveNumbers channel byte m) m
+  give-demands channel byte = record { total = give-total m h channel byte; refuses-cleanly = give-refused m channel byte; one-answer = give-unique m channel byte; answers-exactly = give-exactly m channel byte }
+
+  pub event-demands : Demands12 (EventContract m) (eventNumbers m) m
+  event-demands = record { total = event-total m h; refuses-cleanly = event-refused m; one-answer = event-unique m; answers-exactly = event-exactly m }
+
+  pub undo-demands : Demands12 (UndoContract m) (undoNumbers m) m
+  undo-demands = record { total = undo-total m h; refuses-cleanly = undo-refused m; one-answer = undo-unique m; answers-exactly = undo-exactly m }
+
+  pub clear-demands : Demands12 (ClearContract m) (clearNumbers m) m
+  clear-demands = record { total = clear-total m h; refuses-cleanly = clear-refused m; one-answer = clear-unique m; answers-exactly = clear-exactly m }
+
+-- ---- demand 3
+
+-- from any fresh machine and any list of steps, ticks, takes, gives, events and undos, some refused, each call handed what the one before left
+module _
+    (code mem j : List ℕ) (r₀ : Reply) (mem₀ j₀ : List ℕ) (fresh : FreshContract code mem j r₀ mem₀ j₀)
+    (acts : List (Act Call)) (numbers : List ℕ) (t : Whole) (made : Chain (left r₀ mem₀ j₀) acts numbers t)
+  where
+    -- the accepted calls, undos apart, that have not been undone; the last one first
+    abbrev pub standing : List Call
+    standing = stands acts numbers []
+
+    -- the registers and all memory equal what the rules give for them, in order
+    pub history-demand : plain t ≡ given (plain (left r₀ mem₀ j₀)) standing
+    history-demand = public-history code mem j r₀ mem₀ j₀ fresh acts numbers t made .0
+
+    -- undoing n where at least n stand: every undo is accepted, and registers, memory, depth and used (and the journal's words in use) are as
+    -- before the last n of these, at a moment of the same sequence when all the others stood
+    pub undo-demand : (n : ℕ) → n ≤ length standing → (others : List ℕ) (u : Whole) → Chain t (replicate n undo) others u
+        → (others ≡ replicate n 0)
+        × (m : Moment (left r₀ mem₀ j₀) acts numbers t) × (stands (m .calls-before) (m .numbers-before) [] ≡ drop n standing)
+        × (shown u ≡ shown (m .state))
+    undo-demand = public-undone code mem j r₀ mem₀ j₀ fresh acts numbers t made

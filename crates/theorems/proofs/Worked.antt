@@ -1,0 +1,64 @@
+-- Worked runs by computation, from fresh with code 41 81 (01, Numbers at the edges), on a memory of 64 words and a journal of 92: refused calls, a
+-- refused undo and a full journal among them. Assumes nothing.
+use mathlib.Core.Path.{_≡_, refl}
+use mathlib.Core.List.{List, [], _∷_}
+use Prim.Native.Nat.{ℕ}
+use lib.ListN.{getD, replicate}
+use Rattle.rules.specs.Tests.{ifLt, ifLe, ifEq}
+use Rattle.rules.specs.Words.{sign, restoreToRange, overflows}
+use Rattle.rules.specs.Core.{overflowCheck}
+use Rattle.rules.specs.Registers.{areg, iptrReg, coreOf, withCore}
+use Rattle.rules.specs.Memory.{stores, storing, hit, touched, touchedFrom}
+use Rattle.rules.specs.Work.{put, raise, lower, putCore, refuseAt, wordAt, byteAt, access}
+use Rattle.rules.specs.Scheduling.{actOnSNP, j, timeSlice, sliceIfRunning}
+use Rattle.rules.specs.Timers.{timerDue, timerReady}
+use Rattle.rules.specs.Channels.{requestFrom, requested}
+use Rattle.rules.specs.Links as links
+use Rattle.rules.specs.Operations.{functions, function}
+use Rattle.rules.specs.Step as steps
+use Rattle.rules.specs.Journal.{olds, recordOf, frameBad, lastPairs, lastStart, lastRegs, pairsAt, writeBack, strays}
+use Rattle.rules.specs.Calls.{memoryBad, journalBad, sizeBad, codeBad, notOutput, notInput, recorded, settled, checked, undone, undoLast, codeWord, freshWord, freshMemory, freshRegs, fresh}
+use Rattle.rules.specs.Calls as rules
+use Rattle.history.specs.Machine.{Act, call, undo}
+use Rattle.history.specs.T414.{Call, step, tick, take, give, event, Whole, perform, after, run, standing}
+
+abbrev pub begun : Whole
+begun = after (fresh (0x41 ∷ 0x81 ∷ []) (replicate 64 0) (replicate 92 0))
+
+-- the answers of calls made one after the other
+unfoldable pub answers : List (Act Call) → Whole → List ℕ
+answers [] s = []
+answers (a ∷ acts) s = perform a s .answer ∷ answers acts (after (perform a s))
+
+-- A, depth and used
+abbrev pub facts : Whole → List ℕ
+facts s = getD (s .machine .regs) areg 0 ∷ s .machine .depth ∷ s .machine .used ∷ []
+
+-- an undo of nothing; a take from a link that does not move, and from no link; a tick, undone; a byte given, and a second one that is not
+-- taken; a step; a step that does not fit; two undos and a third one; two steps and a third one
+abbrev pub acts : List (Act Call)
+acts =
+    undo
+    ∷ call (take 0)
+    ∷ call (take 4)
+    ∷ call tick
+    ∷ undo
+    ∷ call (give 4 7)
+    ∷ call (give 4 8)
+    ∷ call step
+    ∷ call step
+    ∷ undo
+    ∷ undo
+    ∷ undo
+    ∷ call step
+    ∷ call step
+    ∷ call step
+    ∷ []
+
+pub answered : answers acts begun ≡ 5 ∷ 8 ∷ 3 ∷ 0 ∷ 0 ∷ 0 ∷ 8 ∷ 0 ∷ 12 ∷ 0 ∷ 0 ∷ 5 ∷ 0 ∷ 0 ∷ 12 ∷ []
+unfolding answers run standing fresh freshRegs freshMemory freshWord codeWord codeBad memoryBad journalBad sizeBad notOutput notInput ifLt ifLe ifEq rules.step rules.tick rules.take rules.give rules.undo checked settled recorded undone undoLast frameBad lastPairs lastStart lastRegs pairsAt writeBack strays olds recordOf touched touchedFrom hit stores storing steps.step steps.choose steps.channelsFirst steps.timersFirst steps.instructionUnlessIdle steps.instruction steps.decode steps.execute steps.fetched steps.haltOnError steps.haltIfAsked links.tick links.take links.taken links.takeByte links.give links.hold links.noticeHeld links.receive function functions requested requestFrom timerReady timerDue put raise lower putCore coreOf withCore wordAt byteAt access refuseAt actOnSNP j timeSlice sliceIfRunning overflowCheck overflows sign restoreToRange
+answered = refl
+
+pub ends : (facts (run acts begun) ≡ 2 ∷ 2 ∷ 92 ∷ []) × (standing acts begun [] ≡ step ∷ step ∷ [])
+unfolding answers run standing fresh freshRegs freshMemory freshWord codeWord codeBad memoryBad journalBad sizeBad notOutput notInput ifLt ifLe ifEq rules.step rules.tick rules.take rules.give rules.undo checked settled recorded undone undoLast frameBad lastPairs lastStart lastRegs pairsAt writeBack strays olds recordOf touched touchedFrom hit stores storing steps.step steps.choose steps.channelsFirst steps.timersFirst steps.instructionUnlessIdle steps.instruction steps.decode steps.execute steps.fetched steps.haltOnError steps.haltIfAsked links.tick links.take links.taken links.takeByte links.give links.hold links.noticeHeld links.receive function functions requested requestFrom timerReady timerDue put raise lower putCore coreOf withCore wordAt byteAt access refuseAt actOnSNP j timeSlice sliceIfRunning overflowCheck overflows sign restoreToRange
+ends = (refl, refl)

@@ -1,0 +1,216 @@
+-- Wrong answers ruled out (01, What the contracts have to say): no function that refuses always, gives one fixed answer, leaves the machine as it
+-- was, undoes nothing, or after a first step only moves Iptr, meets the contract. Each by states on which the rules are computed. An invented depth
+-- or used: Counted.antt. Assumes nothing.
+use mathlib.Core.Path.{_≡_, refl, sym, ap, _∙_}
+use mathlib.Core.List.{List, [], _∷_}
+use Prim.Native.Nat.{ℕ}
+use native.Mathlib.Omega.{arith}
+use lib.ListN.{getD, set, replicate}
+use Rattle.rules.specs.Tests.{ifLt, ifLe, ifEq}
+use Rattle.rules.specs.Words.{sign, restoreToRange, overflows}
+use Rattle.rules.specs.Core.{overflowCheck}
+use Rattle.rules.specs.Stack.{clocksRun}
+use Rattle.rules.specs.Registers.{areg, iptrReg, flagsReg, clockReg, pointerReg, countReg, channelReg, activeBit, coreOf, withCore}
+use Rattle.rules.specs.Memory.{stores, storing, hit, touched, touchedFrom}
+use Rattle.rules.specs.Work.{put, raise, lower, putCore, refuseAt, wordAt, byteAt, access}
+use Rattle.rules.specs.Scheduling.{memStart, actOnSNP, j, timeSlice, sliceIfRunning}
+use Rattle.rules.specs.Timers.{timerDue, timerReady}
+use Rattle.rules.specs.Channels.{requestFrom, requested}
+use Rattle.rules.specs.Links as links
+use Rattle.rules.specs.Operations.{functions, function}
+use Rattle.rules.specs.Step as steps
+use Rattle.rules.specs.Journal.{olds, recordOf, frameBad, lastPairs, lastStart, lastRegs, pairsAt, writeBack, strays}
+use Rattle.rules.specs.Calls.{Outcome, outcomeOf, memoryBad, journalBad, sizeBad, codeBad, notOutput, notInput, recorded, settled, checked, undone, undoLast, codeWord, freshWord, freshMemory, freshRegs, machineOf, fresh}
+use Rattle.rules.specs.Calls as rules
+use Rattle.rules.specs.declared.Machine.{Machine}
+use Rattle.rules.specs.declared.Reply.{Reply}
+use Rattle.history.specs.Machine.{Act, call}
+use Rattle.history.specs.T414.{Call, step, Whole, after, run}
+use Rattle.theorems.specs.Contracts.{FreshContract, StepContract, TickContract, TakeContract, GiveContract, EventContract, UndoContract, ClearContract, number}
+use Rattle.theorems.specs.Chain.{left, Chain}
+use Rattle.theorems.specs.Functions.{Function, Meets, RefusesAlways, AnswersOnly, LeavesRegisters, LeavesDepth, LeavesMemory, ThenMovesIptr, TwoAnswers}
+use Rattle.theorems.proofs.History.{chain-run}
+
+-- ---- the states: fresh with code 41 81, with clocks that run and link 0 moving one byte; after one step of it; and no memory at all
+
+abbrev pub code : List ℕ
+code = 0x41 ∷ 0x81 ∷ []
+
+abbrev pub lent : List ℕ
+lent = replicate 64 0
+
+abbrev pub paper : List ℕ
+paper = replicate 138 0
+
+abbrev pub begun : Whole
+begun =
+    record {
+      machine = machineOf (set (set (set (set (freshRegs 2) flagsReg clocksRun) (pointerReg 0) memStart) (countReg 0) 1) (channelReg 0) activeBit) 0 0;
+      memory = freshMemory code 0 64;
+      journal = paper;
+    }
+
+abbrev pub second : Whole
+second = after (rules.step (begun .machine) (begun .memory) (begun .journal))
+
+abbrev pub nowhere : Whole
+nowhere = record { machine = begun .machine; memory = []; journal = [] }
+
+abbrev Rule : Type 0
+Rule = Machine → List ℕ → List ℕ → Outcome
+
+abbrev at : Rule → Whole → Outcome
+at rule s = rule (s .machine) (s .memory) (s .journal)
+
+-- what the rules say there: the answer, and a register before the call and after it
+abbrev Says : Rule → Whole → ℕ → ℕ → ℕ → ℕ → Type 0
+Says rule s n k v v′ = (at rule s .answer ≡ n) × (getD (s .machine .regs) k 0 ≡ v) × (getD (at rule s .machine .regs) k 0 ≡ v′)
+
+abbrev freshRule : Rule
+freshRule m mem j = rules.fresh code mem j
+
+computed : Says rules.step begun 0 areg 0 1
+    × Says rules.step second 0 areg 1 2
+    × (second .machine .depth ≡ 1)
+    × Says rules.tick begun 0 (clockReg 0) 0 1
+    × Says (rules.take 0) begun 0 (countReg 0) 1 0
+    × Says (rules.give 4 7) begun 0 (channelReg 4) 0 1796
+    × Says rules.event begun 0 (channelReg 8) 0 4
+    × Says rules.undo second 0 areg 1 0
+    × (rules.clear (second .machine) (second .memory) (second .journal) .answer ≡ 0)
+    × (rules.clear (second .machine) (second .memory) (second .journal) .machine .depth ≡ 0)
+    × (fresh code lent paper .answer ≡ 0)
+    × (getD (fresh code lent paper .memory) 0 0 ≡ 0x8000_0000)
+unfolding fresh freshRegs freshMemory freshWord codeWord codeBad memoryBad journalBad sizeBad notOutput notInput ifLt ifLe ifEq rules.step rules.tick rules.take rules.give rules.event rules.undo rules.clear checked settled recorded undone undoLast frameBad lastPairs lastStart lastRegs pairsAt writeBack strays olds recordOf touched touchedFrom hit stores storing steps.step steps.choose steps.channelsFirst steps.timersFirst steps.instructionUnlessIdle steps.instruction steps.decode steps.execute steps.fetched steps.haltOnError steps.haltIfAsked links.tick links.tickClocks links.tickPrescaler links.tickSlice links.take links.taken links.takeByte links.advance links.endAtZero links.transferEnds links.give links.hold links.noticeHeld links.receive links.event links.eventMeets links.eventHolds function functions requested requestFrom timerReady timerDue put raise lower putCore coreOf withCore wordAt byteAt access refuseAt actOnSNP j timeSlice sliceIfRunning overflowCheck overflows sign restoreToRange
+computed = ((refl, refl, refl), (refl, refl, refl), refl, (refl, refl, refl), (refl, refl, refl), (refl, refl, refl), (refl, refl, refl), (refl, refl, refl), refl, refl, refl, refl)
+
+-- without memory each call is refused with 1
+computed-nowhere : (at rules.step nowhere .answer ≡ 1)
+    × (at rules.tick nowhere .answer ≡ 1)
+    × (at (rules.take 0) nowhere .answer ≡ 1)
+    × (at (rules.give 4 7) nowhere .answer ≡ 1)
+    × (at rules.event nowhere .answer ≡ 1)
+    × (at rules.undo nowhere .answer ≡ 1)
+    × (at rules.clear nowhere .answer ≡ 1)
+    × (at freshRule nowhere .answer ≡ 1)
+unfolding rules.step rules.tick rules.take rules.give rules.event rules.undo rules.clear fresh checked sizeBad memoryBad
+computed-nowhere = (refl, refl, refl, refl, refl, refl, refl, refl)
+
+-- ---- no function with one answer, refusing or not
+
+abbrev Obeys : Rule → Function → Type 0
+Obeys rule f = (m : Machine) (mem j : List ℕ) → outcomeOf (f m mem j .reply) (f m mem j .memory) (f m mem j .journal) ≡ rule m mem j
+
+module _ (rule : Rule) (s : Whole) where
+  number-at : (f : Function) → Obeys rule f → number (f (s .machine) (s .memory) (s .journal) .reply) ≡ at rule s .answer
+  number-at f o = ap (λ (x : Outcome). x .answer) (o (s .machine) (s .memory) (s .journal))
+
+  refuses-wrongly : at rule s .answer ≡ 0 → (f : Function) → RefusesAlways f → Obeys rule f → ⊥
+  refuses-wrongly a f h o = h (s .machine) (s .memory) (s .journal) (number-at f o ∙ a)
+
+  answers-wrongly : at rule s .answer ≡ 0 → at rule nowhere .answer ≡ 1 → (f : Function) (n : ℕ) → AnswersOnly n f → Obeys rule f → ⊥
+  answers-wrongly a b f n h o =
+      let zero-here : n ≡ 0 = sym (h (s .machine) (s .memory) (s .journal)) ∙ number-at f o ∙ a in
+      let one-there : n ≡ 1 = sym (h (begun .machine) [] []) ∙ ap (λ (x : Outcome). x .answer) (o (begun .machine) [] []) ∙ b in
+      omega (arith, zero-here, one-there)
+
+  -- a register that the rules change
+  leaves-wrongly : (k v v′ : ℕ) → (v ≡ v′ → ⊥) → getD (s .machine .regs) k 0 ≡ v → getD (at rule s .machine .regs) k 0 ≡ v′
+      → (f : Function) → LeavesRegisters f → Obeys rule f → ⊥
+  leaves-wrongly k v v′ d a b f h o =
+      d (sym a ∙ ap (λ (r : List ℕ). getD r k 0) (sym (h (s .machine) (s .memory) (s .journal)) ∙ ap (λ (x : Outcome). x .machine .regs) (o (s .machine) (s .memory) (s .journal))) ∙ b)
+
+module _ (rule : Rule) (s : Whole) (a : at rule s .answer ≡ 0) (b : at rule nowhere .answer ≡ 1) where
+  two-answers : TwoAnswers (λ m mem j r mem′ j′. outcomeOf r mem′ j′ ≡ rule m mem j)
+  two-answers = record { not-refusing = refuses-wrongly rule s a; not-fixed = answers-wrongly rule s a b }
+
+pub step-answers : TwoAnswers StepContract
+step-answers = two-answers rules.step begun (computed .0 .0) (computed-nowhere .0)
+
+pub tick-answers : TwoAnswers TickContract
+tick-answers = two-answers rules.tick begun (computed .3 .0) (computed-nowhere .1)
+
+pub take-answers : TwoAnswers (TakeContract 0)
+take-answers = two-answers (rules.take 0) begun (computed .4 .0) (computed-nowhere .2)
+
+pub give-answers : TwoAnswers (GiveContract 4 7)
+give-answers = two-answers (rules.give 4 7) begun (computed .5 .0) (computed-nowhere .3)
+
+pub event-answers : TwoAnswers EventContract
+event-answers = two-answers rules.event begun (computed .6 .0) (computed-nowhere .4)
+
+pub undo-answers : TwoAnswers UndoContract
+undo-answers = two-answers rules.undo second (computed .7 .0) (computed-nowhere .5)
+
+pub clear-answers : TwoAnswers ClearContract
+clear-answers = two-answers rules.clear second (computed .8) (computed-nowhere .6)
+
+-- fresh is handed no machine
+pub fresh-answers : TwoAnswers (λ m. FreshContract code)
+fresh-answers = two-answers freshRule (record { machine = begun .machine; memory = lent; journal = paper }) (computed .10) (computed-nowhere .7)
+
+-- ---- leaving the machine as it was; an undo that does nothing
+
+pub step-leaves : (f : Function) → LeavesRegisters f → Meets StepContract f → ⊥
+step-leaves f h o = leaves-wrongly rules.step begun areg 0 1 (λ e. omega (arith, e)) (computed .0 .1) (computed .0 .2) f h o
+
+pub tick-leaves : (f : Function) → LeavesRegisters f → Meets TickContract f → ⊥
+tick-leaves f h o = leaves-wrongly rules.tick begun (clockReg 0) 0 1 (λ e. omega (arith, e)) (computed .3 .1) (computed .3 .2) f h o
+
+pub take-leaves : (f : Function) → LeavesRegisters f → Meets (TakeContract 0) f → ⊥
+take-leaves f h o = leaves-wrongly (rules.take 0) begun (countReg 0) 1 0 (λ e. omega (arith, e)) (computed .4 .1) (computed .4 .2) f h o
+
+pub give-leaves : (f : Function) → LeavesRegisters f → Meets (GiveContract 4 7) f → ⊥
+give-leaves f h o = leaves-wrongly (rules.give 4 7) begun (channelReg 4) 0 1796 (λ e. omega (arith, e)) (computed .5 .1) (computed .5 .2) f h o
+
+pub event-leaves : (f : Function) → LeavesRegisters f → Meets EventContract f → ⊥
+event-leaves f h o = leaves-wrongly rules.event begun (channelReg 8) 0 4 (λ e. omega (arith, e)) (computed .6 .1) (computed .6 .2) f h o
+
+pub undo-leaves : (f : Function) → LeavesRegisters f → Meets UndoContract f → ⊥
+undo-leaves f h o = leaves-wrongly rules.undo second areg 1 0 (λ e. omega (arith, e)) (computed .7 .1) (computed .7 .2) f h o
+
+-- clear leaves the registers; it must not leave the depth
+pub clear-leaves : (f : Function) → LeavesDepth f → Meets ClearContract f → ⊥
+clear-leaves f h o =
+    let e : second .machine .depth ≡ 0 =
+    sym (h (second .machine) (second .memory) (second .journal))
+    ∙ ap (λ (x : Outcome). x .machine .depth) (o (second .machine) (second .memory) (second .journal))
+    ∙ computed .9 in
+    omega (arith, e, computed .2)
+
+-- fresh must not leave the memory
+pub fresh-leaves : (f : Function) → LeavesMemory f → Meets (λ m. FreshContract code) f → ⊥
+fresh-leaves f h o =
+    let e : _≡_ {A = ℕ} 0 0x8000_0000 =
+    ap (λ (l : List ℕ). getD l 0 0) (sym (h (begun .machine) lent paper) ∙ ap (λ (x : Outcome). x .memory) (o (begun .machine) lent paper))
+    ∙ computed .11 in
+    omega (arith, e)
+
+-- ---- the first step properly and then only moving Iptr
+
+pub step-moves-iptr : (f : Function) → ThenMovesIptr f → Meets StepContract f → ⊥
+step-moves-iptr f h o =
+    let stays : getD (f (second .machine) (second .memory) (second .journal) .reply .machine .regs) areg 0 ≡ getD (second .machine .regs) areg 0 =
+    h (second .machine) (second .memory) (second .journal) (λ e. omega (arith, e, computed .2)) areg (λ e. omega (arith, e)) in
+    let e : _≡_ {A = ℕ} 1 2 =
+    sym (computed .1 .1)
+    ∙ sym stays
+    ∙ ap (λ (x : Outcome). getD (x .machine .regs) areg 0) (o (second .machine) (second .memory) (second .journal))
+    ∙ computed .1 .2 in
+    omega (arith, e)
+
+-- and over a sequence: after fresh and two calls of any function that meets the contract, A is 2
+
+abbrev twice : List (Act Call)
+twice = call step ∷ call step ∷ []
+
+computed-twice : getD (run twice (after (fresh code lent paper)) .machine .regs) areg 0 ≡ 2
+unfolding run fresh freshRegs freshMemory freshWord codeWord codeBad memoryBad journalBad sizeBad notOutput notInput ifLt ifLe ifEq rules.step rules.tick rules.take rules.give rules.event rules.undo rules.clear checked settled recorded undone undoLast frameBad lastPairs lastStart lastRegs pairsAt writeBack strays olds recordOf touched touchedFrom hit stores storing steps.step steps.choose steps.channelsFirst steps.timersFirst steps.instructionUnlessIdle steps.instruction steps.decode steps.execute steps.fetched steps.haltOnError steps.haltIfAsked links.tick links.tickClocks links.tickPrescaler links.tickSlice links.take links.taken links.takeByte links.advance links.endAtZero links.transferEnds links.give links.hold links.noticeHeld links.receive links.event links.eventMeets links.eventHolds function functions requested requestFrom timerReady timerDue put raise lower putCore coreOf withCore wordAt byteAt access refuseAt actOnSNP j timeSlice sliceIfRunning overflowCheck overflows sign restoreToRange
+computed-twice = refl
+
+pub two-steps-work : (r₀ : Reply) (mem₀ j₀ : List ℕ) → FreshContract code lent paper r₀ mem₀ j₀
+    → (numbers : List ℕ) (t : Whole) → Chain (left r₀ mem₀ j₀) twice numbers t → getD (t .machine .regs) areg 0 ≡ 2
+two-steps-work r₀ mem₀ j₀ f numbers t c =
+    ap (λ (w : Whole). getD (w .machine .regs) areg 0) (chain-run c)
+    ∙ ap (λ (o : Outcome). getD (run twice (after o) .machine .regs) areg 0) f
+    ∙ computed-twice

@@ -1,0 +1,79 @@
+-- The contracts of the eight public functions (crates/t414), each as one definition: from a machine, memory and journal to a reply, and memory
+-- and journal as they then are. It is the very equation that stands in the function's `ensures`; no function has a `requires`.
+use mathlib.Core.Path.{_≡_}
+use mathlib.Core.List.{List}
+use Prim.Native.Nat.{ℕ}
+use Rattle.rules.specs.Calls.{numberOf, outcomeOf}
+use Rattle.rules.specs.Calls as rules
+use Rattle.rules.specs.declared.Machine.{Machine}
+use Rattle.rules.specs.declared.Reply.{Reply}
+
+-- what is handed in, and what comes out
+abbrev pub Contract : Type 1
+Contract = (mem j : List ℕ) (r : Reply) (mem′ j′ : List ℕ) → Type 0
+
+abbrev pub FreshContract : (code : List ℕ) → Contract
+FreshContract code mem j r mem′ j′ = outcomeOf r mem′ j′ ≡ rules.fresh code mem j
+
+abbrev pub StepContract : Machine → Contract
+StepContract m mem j r mem′ j′ = outcomeOf r mem′ j′ ≡ rules.step m mem j
+
+abbrev pub TickContract : Machine → Contract
+TickContract m mem j r mem′ j′ = outcomeOf r mem′ j′ ≡ rules.tick m mem j
+
+abbrev pub TakeContract : (channel : ℕ) → Machine → Contract
+TakeContract channel m mem j r mem′ j′ = outcomeOf r mem′ j′ ≡ rules.take channel m mem j
+
+abbrev pub GiveContract : (channel byte : ℕ) → Machine → Contract
+GiveContract channel byte m mem j r mem′ j′ = outcomeOf r mem′ j′ ≡ rules.give channel byte m mem j
+
+abbrev pub EventContract : Machine → Contract
+EventContract m mem j r mem′ j′ = outcomeOf r mem′ j′ ≡ rules.event m mem j
+
+abbrev pub UndoContract : Machine → Contract
+UndoContract m mem j r mem′ j′ = outcomeOf r mem′ j′ ≡ rules.undo m mem j
+
+abbrev pub ClearContract : Machine → Contract
+ClearContract m mem j r mem′ j′ = outcomeOf r mem′ j′ ≡ rules.clear m mem j
+
+-- ---- what the theorems say of them
+
+-- two results of a call are the same: answer, byte, registers, depth, used and every lent word
+pub record Same (r r′ : Reply) (mem mem′ j j′ : List ℕ) : Type 0 where
+  pub answer : r .answer ≡ r′ .answer
+  pub byte : r .byte ≡ r′ .byte
+  pub registers : r .machine .regs ≡ r′ .machine .regs
+  pub depth : r .machine .depth ≡ r′ .machine .depth
+  pub used : r .machine .used ≡ r′ .machine .used
+  pub memory : mem ≡ mem′
+  pub journal : j ≡ j′
+
+-- no two results meet the contract
+abbrev pub OneAnswer : Contract → Type 0
+OneAnswer C = (mem j : List ℕ) (r₁ r₂ : Reply) (mem₁ mem₂ j₁ j₂ : List ℕ) → C mem j r₁ mem₁ j₁ → C mem j r₂ mem₂ j₂ → Same r₁ r₂ mem₁ mem₂ j₁ j₂
+
+-- some result does
+pub record Answered (C : Contract) (mem j : List ℕ) : Type 0 where
+  pub reply : Reply
+  pub memory : List ℕ
+  pub journal : List ℕ
+  pub meets : C mem j reply memory journal
+
+abbrev pub Total : Contract → Type 0
+Total C = (mem j : List ℕ) → Answered C mem j
+
+abbrev pub number : Reply → ℕ
+number r = numberOf (r .answer)
+
+-- byte 0, and all as it was before the call
+pub record Unchanged (m : Machine) (mem j : List ℕ) (r : Reply) (mem′ j′ : List ℕ) : Type 0 where
+  pub byte : r .byte ≡ 0
+  pub registers : r .machine .regs ≡ m .regs
+  pub depth : r .machine .depth ≡ m .depth
+  pub used : r .machine .used ≡ m .used
+  pub memory : mem′ ≡ mem
+  pub journal : j′ ≡ j
+
+-- a refused call leaves all as it was; m is the machine before it
+abbrev pub RefusesCleanly : Machine → Contract → Type 0
+RefusesCleanly m C = (mem j : List ℕ) (r : Reply) (mem′ j′ : List ℕ) → C mem j r mem′ j′ → (number r ≡ 0 → ⊥) → Unchanged m mem j r mem′ j′

@@ -1,0 +1,4 @@
+pub mod Contracts
+pub mod Given
+pub mod Chain
+pub mod Functions

@@ -1,0 +1,128 @@
+// Timer guards (000 1.11): enable timer and disable timer.
+use crate::deletion::delete_first_step;
+use crate::queues::drop_b;
+use crate::waits::is_this_selected_process;
+use names::AREG;
+use names::BREG;
+use names::CREG;
+use names::MACHINE_FALSE;
+use names::STOP;
+use names::TIME_NOT_SET;
+use names::TIME_S;
+use names::TIME_SET;
+use names::TLINK_S;
+use names::WDESC_REG;
+use names::WPTR_MASK;
+use store::Plan;
+use store::load_word;
+use store::put;
+use store::refuse;
+use store::w_index_word;
+use store::word_at;
+use words::at_word;
+use words::later;
+ghost use mathlib.Core.Path.{_≡_};
+ghost use Rattle.rules.specs.Timers as rules;
+ghost use Rattle.store.specs.View.{view, Room, Grown};
+
+// The first timer guard of the alternative.
+fn enbt_first(w: Plan, mem: &[u32]) -> Plan
+    requires { ⌜ Room 2 w ⌝ }
+    ensures { λ r. ⌜ (view r ≡ rules.enbtFirst (now (mem .entry)) (view w)) × Grown 2 w r ⌝ }
+{
+    let wptr = w.regs[WDESC_REG] & WPTR_MASK;
+    let set = w_index_word(w, mem, wptr, TLINK_S, TIME_SET);
+    w_index_word(set, mem, wptr, TIME_S, w.regs[BREG])
+}
+
+// The earliest time is kept.
+fn enbt_earlier(w: Plan, mem: &[u32], time: u32) -> Plan
+    requires { ⌜ Room 1 w ⌝ }
+    ensures { λ r. ⌜ (view r ≡ rules.enbtEarlier (now (mem .entry)) time (view w)) × Grown 1 w r ⌝ }
+{
+    if later(time, w.regs[BREG]) {
+        let wptr = w.regs[WDESC_REG] & WPTR_MASK;
+        return w_index_word(w, mem, wptr, TIME_S, w.regs[BREG]);
+    }
+    w
+}
+
+fn enbt_link(w: Plan, mem: &[u32], link: u32) -> Plan
+    requires { ⌜ Room 2 w ⌝ }
+    ensures { λ r. ⌜ (view r ≡ rules.enbtLink (now (mem .entry)) link (view w)) × Grown 2 w r ⌝ }
+{
+    if link == TIME_NOT_SET {
+        return enbt_first(w, mem);
+    }
+    if link == TIME_SET {
+        let a = at_word(w.regs[WDESC_REG] & WPTR_MASK, TIME_S);
+        let time = word_at(w, mem, a);
+        return enbt_earlier(load_word(w, mem, a), mem, time);
+    }
+    refuse(w, STOP)
+}
+
+fn enbt_guard(w: Plan, mem: &[u32]) -> Plan
+    requires { ⌜ Room 2 w ⌝ }
+    ensures { λ r. ⌜ (view r ≡ rules.enbtGuard (now (mem .entry)) (view w)) × Grown 2 w r ⌝ }
+{
+    if w.regs[AREG] == MACHINE_FALSE {
+        return w;
+    }
+    let a = at_word(w.regs[WDESC_REG] & WPTR_MASK, TLINK_S);
+    let link = word_at(w, mem, a);
+    enbt_link(load_word(w, mem, a), mem, link)
+}
+
+pub fn enbt(w: Plan, mem: &[u32]) -> Plan
+    requires { ⌜ Room 2 w ⌝ }
+    ensures { λ r. ⌜ (view r ≡ rules.enbt (now (mem .entry)) (view w)) × Grown 2 w r ⌝ }
+{
+    drop_b(enbt_guard(w, mem))
+}
+
+// Ready where the time of the wait's end is after that of this guard.
+fn dist_ready(w: Plan, mem: &[u32], time: u32) -> Plan
+    requires { ⌜ Room 1 w ⌝ }
+    ensures { λ r. ⌜ (view r ≡ rules.distReady (now (mem .entry)) time (view w)) × Grown 1 w r ⌝ }
+{
+    if later(time, w.regs[CREG]) {
+        return is_this_selected_process(w, mem);
+    }
+    put(w, AREG, MACHINE_FALSE)
+}
+
+fn dist_set(w: Plan, mem: &[u32], link: u32) -> Plan
+    requires { ⌜ Room 2 w ⌝ }
+    ensures { λ r. ⌜ (view r ≡ rules.distSet (now (mem .entry)) link (view w)) × Grown 2 w r ⌝ }
+{
+    if link == TIME_SET {
+        let a = at_word(w.regs[WDESC_REG] & WPTR_MASK, TIME_S);
+        let time = word_at(w, mem, a);
+        return dist_ready(load_word(w, mem, a), mem, time);
+    }
+    put(delete_first_step(w, mem), AREG, MACHINE_FALSE)
+}
+
+// The process is still in the queue where its link is neither mark: it is taken out.
+fn dist_link(w: Plan, mem: &[u32], link: u32) -> Plan
+    requires { ⌜ Room 2 w ⌝ }
+    ensures { λ r. ⌜ (view r ≡ rules.distLink (now (mem .entry)) link (view w)) × Grown 2 w r ⌝ }
+{
+    if link == TIME_NOT_SET {
+        return put(w, AREG, MACHINE_FALSE);
+    }
+    dist_set(w, mem, link)
+}
+
+pub fn dist(w: Plan, mem: &[u32]) -> Plan
+    requires { ⌜ Room 2 w ⌝ }
+    ensures { λ r. ⌜ (view r ≡ rules.dist (now (mem .entry)) (view w)) × Grown 2 w r ⌝ }
+{
+    if w.regs[BREG] == MACHINE_FALSE {
+        return put(w, AREG, MACHINE_FALSE);
+    }
+    let a = at_word(w.regs[WDESC_REG] & WPTR_MASK, TLINK_S);
+    let link = word_at(w, mem, a);
+    dist_link(load_word(w, mem, a), mem, link)
+}

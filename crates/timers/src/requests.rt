@@ -1,0 +1,113 @@
+// PROC HandleTimerRequest (000 1.8): the front process of a queue is taken off, and runs if it was waiting.
+use crate::queues::set_next;
+use crate::queues::t_enabled;
+use crate::queues::tptr_loc;
+use names::FLAGS_REG;
+use names::NOT_PROCESS;
+use names::POINTER_S;
+use names::READY;
+use names::STOP;
+use names::TIME_SET;
+use names::TIMER_BASE;
+use names::TLINK_S;
+use names::WAITING;
+use schedule::run;
+use store::Plan;
+use store::load_word;
+use store::lower;
+use store::refuse;
+use store::w_index_word;
+use store::word_at;
+use words::at_word;
+ghost use mathlib.Core.Path.{_≡_};
+ghost use Prim.Native.Nat.{_<_};
+ghost use Rattle.rules.specs.Timers as rules;
+ghost use Rattle.store.specs.View.{view, Room, Grown};
+
+fn timed_out(w: Plan, mem: &[u32], queue: usize, front: u32) -> Plan
+    requires { ⌜ (queue < 2) × Room 8 w ⌝ }
+    ensures { λ r. ⌜ (view r ≡ rules.timedOut (now (mem .entry)) queue front (view w)) × Grown 8 w r ⌝ }
+{
+    let descriptor = front | (queue as u32);
+    run(
+        w_index_word(w, mem, front, POINTER_S, READY),
+        mem,
+        descriptor,
+    )
+}
+
+// An IF of 000 with two branches: any other status is a Stop.
+fn timer_status(w: Plan, mem: &[u32], queue: usize, front: u32, status: u32) -> Plan
+    requires { ⌜ (queue < 2) × Room 8 w ⌝ }
+    ensures { λ r. ⌜ (view r ≡ rules.timerStatus (now (mem .entry)) queue front status (view w)) × Grown 8 w r ⌝ }
+{
+    if status == READY {
+        return w;
+    }
+    if status == WAITING {
+        return timed_out(w, mem, queue, front);
+    }
+    refuse(w, STOP)
+}
+
+fn timer_wake(w: Plan, mem: &[u32], queue: usize, front: u32) -> Plan
+    requires { ⌜ (queue < 2) × Room 8 w ⌝ }
+    ensures { λ r. ⌜ (view r ≡ rules.timerWake (now (mem .entry)) queue front (view w)) × Grown 8 w r ⌝ }
+{
+    let a = at_word(front, POINTER_S);
+    let status = word_at(w, mem, a);
+    timer_status(load_word(w, mem, a), mem, queue, front, status)
+}
+
+fn timer_next(w: Plan, mem: &[u32], queue: usize, second: u32) -> Plan
+    requires { ⌜ (queue < 2) × Room 0 w ⌝ }
+    ensures { λ r. ⌜ (view r ≡ rules.timerNext (now (mem .entry)) queue second (view w)) × Grown 0 w r ⌝ }
+{
+    if second == NOT_PROCESS {
+        return w;
+    }
+    set_next(w, mem, queue, second)
+}
+
+fn timer_unlink(w: Plan, mem: &[u32], queue: usize, front: u32, second: u32) -> Plan
+    requires { ⌜ (queue < 2) × Room 2 w ⌝ }
+    ensures { λ r. ⌜ (view r ≡ rules.timerUnlink (now (mem .entry)) queue front second (view w)) × Grown 2 w r ⌝ }
+{
+    let marked = w_index_word(w, mem, front, TLINK_S, TIME_SET);
+    timer_next(
+        w_index_word(marked, mem, TIMER_BASE, queue as u32, second),
+        mem,
+        queue,
+        second,
+    )
+}
+
+fn timer_front(w: Plan, mem: &[u32], queue: usize, front: u32) -> Plan
+    requires { ⌜ (queue < 2) × Room 10 w ⌝ }
+    ensures { λ r. ⌜ (view r ≡ rules.timerFront (now (mem .entry)) queue front (view w)) × Grown 10 w r ⌝ }
+{
+    let a = at_word(front, TLINK_S);
+    let second = word_at(w, mem, a);
+    timer_wake(
+        timer_unlink(load_word(w, mem, a), mem, queue, front, second),
+        mem,
+        queue,
+        front,
+    )
+}
+
+fn timer_serve(w: Plan, mem: &[u32], queue: usize) -> Plan
+    requires { ⌜ (queue < 2) × Room 10 w ⌝ }
+    ensures { λ r. ⌜ (view r ≡ rules.timerServe (now (mem .entry)) queue (view w)) × Grown 10 w r ⌝ }
+{
+    let a = tptr_loc(queue);
+    let front = word_at(w, mem, a);
+    timer_front(load_word(w, mem, a), mem, queue, front)
+}
+
+pub fn handle_timer_request(w: Plan, mem: &[u32], queue: usize) -> Plan
+    requires { ⌜ (queue < 2) × Room 10 w ⌝ }
+    ensures { λ r. ⌜ (view r ≡ rules.handleTimerRequest (now (mem .entry)) queue (view w)) × Grown 10 w r ⌝ }
+{
+    timer_serve(lower(w, FLAGS_REG, t_enabled(queue)), mem, queue)
+}

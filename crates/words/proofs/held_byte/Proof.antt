@@ -1,0 +1,15 @@
+use mathlib.Core.Path.{refl}
+use native.Mathlib.Omega.{arith}
+use Prim.Native.Nat.{_/_, _^_}
+use lib.Bits.{and-mask}
+use Rattle.words.proofs.held_byte.Statement.{statement}
+use Rattle.words.proofs.held_byte.Tie as tie
+use Rattle.words.proofs.held_byte.Reads as reads
+use Rattle.words.proofs.held_byte.Lts as lts
+
+-- src/lib.rt:90:1
+returns : tie.Need-returns
+returns c = (refl, omega (arith, and-mask (c .args .x / 2 ^ 8) 8))
+
+pub held-byte-spec : {M : Type 1} → statement M
+held-byte-spec = tie.close (tie.spec returns)
