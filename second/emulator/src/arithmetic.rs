@@ -160,14 +160,20 @@ impl<K: Care> Work<'_, K> {
     pub fn extend_to_word(&mut self) {
         let a = self.part_word_sign();
         let b = i64::from(signed(self.regs[B]));
-        let extended = if b < a { b } else { b - 2 * a };
+        let positive = b < a || (self.wrong(Mistake::SignBitIsPositive) && b == a);
+        let extended = if positive { b } else { b - 2 * a };
         self.result(extended as u32);
     }
 
     pub fn check_word(&mut self) {
         let a = self.part_word_sign();
         let b = i64::from(signed(self.regs[B]));
-        if b >= a || b < -a {
+        let least = if self.wrong(Mistake::LeastPartWordRefused) {
+            1 - a
+        } else {
+            -a
+        };
+        if b >= a || b < least {
             self.set_error_flag();
         }
         self.pop();

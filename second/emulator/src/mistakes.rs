@@ -130,6 +130,10 @@ mistakes! {
     ShiftBy32Keeps,
     ShrSignedCount,
     SignedPartWord,
+    /// xword takes the sign bit alone as positive.
+    SignBitIsPositive,
+    /// cword errs for the least value that fits.
+    LeastPartWordRefused,
     WholeCarryWord,
     LongShiftLimit32,
     MoveBackwards,

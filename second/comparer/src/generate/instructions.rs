@@ -174,6 +174,7 @@ fn operands(random: &mut Random, scene: &mut Scene, name: &str) {
         "shl" | "shr" => shift(random, scene, 32),
         "lshl" | "lshr" => shift(random, scene, 64),
         "div" | "rem" => division(random, scene),
+        "xword" | "cword" => part_word(random, scene),
         "ldiv" => long_division(random, scene),
         "lsum" | "ldiff" | "ladd" | "lsub" => carry(random, scene),
         "norm" => normal(random, scene),
@@ -219,6 +220,16 @@ fn shift(random: &mut Random, scene: &mut Scene, bits: u32) {
     };
     scene.regs[B] = random.word();
     scene.regs[C] = random.word();
+}
+
+/// B often at one of the two bounds that A sets.
+fn part_word(random: &mut Random, scene: &mut Scene) {
+    arithmetic(random, scene);
+    let a = scene.regs[A];
+    if random.percent(50) {
+        let bound = random.pick(&[a, a.wrapping_neg()]);
+        scene.regs[B] = bound.wrapping_add(random.below(3)).wrapping_sub(1);
+    }
 }
 
 /// Often a division that has no result.

@@ -109,7 +109,10 @@ fn damage(random: &mut Random, case: &mut Case) {
     // 46 times these is 2^64 + 40 and 2^65 + 34: small numbers if the product wraps.
     let wraps = [401_016_175_515_425_036, 802_032_351_030_850_071];
     match random.below(5) {
-        0 => case.machine.used = random.pick(&[length + 1, length + 46, any, u64::MAX, 1 << 32]),
+        0 => {
+            case.machine.used = random.pick(&[length + 1, length + 46, any, u64::MAX, 1 << 32]);
+            case.machine.depth = random.pick(&[case.machine.depth, 0]);
+        }
         1 => case.machine.depth = random.pick(&[any, u64::MAX, 1 << 63, wraps[0], wraps[1]]),
         2 => case.machine.depth = case.machine.used / RECORD as u64 + 1,
         3 => case.machine.depth = random.pick(&wraps),
