@@ -42,6 +42,10 @@ module _ (size depth used : ℕ) where
       neither true b e = let z : _≡_ {A = ℕ} 0 1 = cc in absurd (omega arith)
       neither false b e = (refl, e)
 
+pub frame-is : (size depth used : ℕ) → used ≤ size → recordLength 0 * depth ≤ used → frameBad size depth used ≡ false
+unfolding frameBad
+frame-is size depth used h k = rw (le-ltb size used h, le-ltb used (recordLength 0 * depth) k)
+
 pub full : (size used n : ℕ) → used ≤ size → ltb (size - used) (registers + 1 + 2 * n) ≡ ltb size (used + recordLength n)
 full size used n h =
     same-test (size - used) (registers + 1 + 2 * n) size (used + recordLength n) (λ k. omega arith) (λ k. omega arith)

@@ -3,3 +3,4 @@ pub mod Frame
 pub mod Merge
 pub mod Written
 pub mod Outcomes
+pub mod Undo
