@@ -1,15 +1,16 @@
 -- The table of 01, "Answers by number": each number's condition as a definition of its own, and for each call its numbers in the table's order.
 -- A call answers with the first number whose condition holds, and 0 where none does (proofs/Exactly.antt).
-use Prim.Native.Nat.{ℕ, _+_}
+use Prim.Native.Nat.{ℕ, _+_, _/_, _^_}
 use mathlib.Core.Bool.{Bool, true, false, _&&_, _||_, not}
 use mathlib.Core.List.{List, [], _∷_}
 use lib.Dec.{ltb, leb, eqb}
 use lib.ListN.{length, getD}
 use Rattle.rules.specs.Tests.{pick, ifEq, ifSet}
-use Rattle.rules.specs.Registers.{oreg, statusReg, flagsReg, pointerReg, countReg, channelReg, haltedFlag, idleFlag, activeBit, heldBit, linkChans, eventChannel}
-use Rattle.rules.specs.Words.{index}
+use Rattle.rules.specs.Registers.{iptrReg, oreg, statusReg, flagsReg, pointerReg, countReg, channelReg, haltedFlag, idleFlag, activeBit, heldBit, linkChans, eventChannel}
+use Rattle.rules.specs.Words.{index, withNibble}
 use Rattle.rules.specs.Memory.{touched}
-use Rattle.rules.specs.Work.{Work, begin}
+use Rattle.rules.specs.Work.{Work, begin, byteAt}
+use Rattle.rules.specs.Operations.{operations}
 use Rattle.rules.specs.Timers.{timerReady}
 use Rattle.rules.specs.Channels.{requested}
 use Rattle.rules.specs.Journal.{recordLength, frameBad, lastPairs, lastStart, pairsAt, strays}
@@ -17,6 +18,7 @@ use Rattle.rules.specs.Links as links
 use Rattle.rules.specs.Step as steps
 use Rattle.rules.specs.Calls.{sizeBad, codeBad, notOutput, notInput}
 use Rattle.rules.specs.declared.Machine.{Machine}
+use Rattle.laws.specs.Lists.{listed}
 
 -- the first number whose condition holds, 0 where none does
 unfoldable pub firstOf : List (ℕ × Bool) → ℕ
@@ -42,12 +44,15 @@ nothingToUndo m = eqb (m .depth) 0
 abbrev pub isHalted : List ℕ → Bool
 isHalted r = ifSet haltedFlag (getD r flagsReg 0) true false
 
--- 7 Idle: idle, and neither (a) nor (b) applies
+-- 7 Idle: idle, and neither (a) nor (b) applies, so that (c) would
 abbrev pub asked : List ℕ → Bool
 asked r = ltb (requested (begin r)) linkChans || timerReady 0 (begin r) || timerReady 1 (begin r)
 
+abbrev pub fetches : List ℕ → Bool
+fetches r = ifEq (getD r oreg 0) 0 (not (asked r)) true
+
 unfoldable pub isIdle : List ℕ → Bool
-isIdle r = ifSet idleFlag (getD r flagsReg 0) (ifEq (getD r oreg 0) 0 (not (asked r)) true) false
+isIdle r = ifSet idleFlag (getD r flagsReg 0) (fetches r) false
 
 -- 8 NotReady
 abbrev pub isMoving : ℕ → List ℕ → Bool
@@ -61,6 +66,18 @@ takeNotReady c r = not (isMoving c r)
 
 abbrev pub giveNotReady : ℕ → List ℕ → Bool
 giveNotReady c r = not (isMoving c r) && isHeld c r
+
+-- 9 Unlisted: the byte was fetched, and makes an operation outside the built list. The byte at Iptr; its function is `opr`; and Oreg with its
+-- nibble is no code of the table
+abbrev pub nextByte : List ℕ → List ℕ → ℕ
+nextByte r mem = byteAt mem (getD r iptrReg 0) (begin r)
+
+unfoldable pub isUnlisted : List ℕ → List ℕ → Bool
+isUnlisted r mem =
+    fetches r
+    && ltb (index (getD r iptrReg 0)) (length mem)
+    && eqb (nextByte r mem / 2 ^ 4) 0xF
+    && not (listed (withNibble (nextByte r mem) (getD r oreg 0)) operations)
 
 -- 10 Outside, of take and give: the byte at the pointer of a moving link
 abbrev pub pointerOutside : ℕ → List ℕ → List ℕ → Bool
@@ -100,7 +117,8 @@ module _ (m : Machine) (mem j : List ℕ) where
       ∷ (4, pairOutside m mem j)
       ∷ []
 
-  -- the answer of what a step does where it is neither halted nor idle: 9, 10 or 11 by its accesses in 000's order, else 0
+  -- what a step does where it is not halted: (a), (b) or (c), by its accesses in 000's order. The first access outside memory makes its answer 10,
+  -- the first Stop 11, and nothing is accessed after it (crates/rules/specs/Work.antt)
   abbrev pub ownAnswer : ℕ
   ownAnswer = steps.choose mem (begin (m .regs)) .answer
 
@@ -110,7 +128,9 @@ module _ (m : Machine) (mem j : List ℕ) where
       ∷ (4, frame m j)
       ∷ (6, isHalted (m .regs))
       ∷ (7, isIdle (m .regs))
-      ∷ (ownAnswer, not (eqb ownAnswer 0))
+      ∷ (9, isUnlisted (m .regs) mem)
+      ∷ (10, eqb ownAnswer 10)
+      ∷ (11, eqb ownAnswer 11)
       ∷ (12, full m mem j (steps.step mem (begin (m .regs))))
       ∷ []
 

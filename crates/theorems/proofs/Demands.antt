@@ -42,7 +42,7 @@ fresh-demands code = record { total = fresh-total code; refuses-cleanly = fresh-
 -- a machine has 45 registers, of any value; depth and used are any numbers
 module _ (m : Machine) (h : length (m .regs) ≡ registers) where
   pub step-demands : Demands12 (StepContract m) (stepNumbers m) m
-  step-demands = record { total = step-total m h; refuses-cleanly = step-refused m; one-answer = step-unique m; answers-exactly = step-exactly m }
+  step-demands = record { total = step-total m h; refuses-cleanly = step-refused m; one-answer = step-unique m; answers-exactly = step-exactly m h }
 
   pub tick-demands : Demands12 (TickContract m) (tickNumbers m) m
   tick-demands = record { total = tick-total m h; refuses-cleanly = tick-refused m; one-answer = tick-unique m; answers-exactly = tick-exactly m }
