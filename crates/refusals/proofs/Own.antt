@@ -30,6 +30,7 @@ use Rattle.laws.proofs.FineOperations.{fine-operate, fine-direct, operate-unlis
 use Rattle.laws.proofs.FineStep.{fine-fetched, fine-decode, fine-instruction}
 use Rattle.laws.proofs.Calm.{inside-same, outside-out}
 use Rattle.refusals.specs.Conditions.{firstOf, asked, fetches, isIdle, nextByte, isUnlisted}
+use Rattle.refusals.proofs.Built.{built-listed}
 
 never : {A : Type 0} → _≡_ {A = Bool} false true → A
 never e = absurd (let z : _≡_ {A = ℕ} 0 1 = cc in omega arith)
@@ -137,7 +138,7 @@ module _ (r mem : List ℕ) (h : length r ≡ registers) where
   module _ (f : fetches r ≡ true) (b : index (getD r iptrReg 0) < length mem) where
     unlisted-is : isUnlisted r mem ≡ (eqb (byte / 2 ^ 4) 0xF && not (listed (withNibble byte (getD r oreg 0)) operations))
     unfolding isUnlisted byte
-    unlisted-is = rw (f, lt-ltb (index (getD r iptrReg 0)) (length mem) b)
+    unlisted-is = rw (f, lt-ltb (index (getD r iptrReg 0)) (length mem) b, built-listed (withNibble (nextByte r mem) (getD r oreg 0)))
 
     not-opr : (byte / 2 ^ 4 ≡ 0xF → ⊥) → isUnlisted r mem ≡ false
     not-opr n = unlisted-is ∙ rw (ne-eqb (byte / 2 ^ 4) 0xF n)

@@ -10,7 +10,6 @@ use Rattle.rules.specs.Registers.{iptrReg, oreg, statusReg, flagsReg, pointerRe
 use Rattle.rules.specs.Words.{index, withNibble}
 use Rattle.rules.specs.Memory.{touched}
 use Rattle.rules.specs.Work.{Work, begin, byteAt}
-use Rattle.rules.specs.Operations.{operations}
 use Rattle.rules.specs.Timers.{timerReady}
 use Rattle.rules.specs.Channels.{requested}
 use Rattle.rules.specs.Journal.{recordLength, frameBad, lastPairs, lastStart, pairsAt, strays}
@@ -18,7 +17,6 @@ use Rattle.rules.specs.Links as links
 use Rattle.rules.specs.Step as steps
 use Rattle.rules.specs.Calls.{sizeBad, codeBad, notOutput, notInput}
 use Rattle.rules.specs.declared.Machine.{Machine}
-use Rattle.laws.specs.Lists.{listed}
 
 -- the first number whose condition holds, 0 where none does
 unfoldable pub firstOf : List (ℕ × Bool) → ℕ
@@ -67,8 +65,17 @@ takeNotReady c r = not (isMoving c r)
 abbrev pub giveNotReady : ℕ → List ℕ → Bool
 giveNotReady c r = not (isMoving c r) && isHeld c r
 
+-- the built list: #00 to #0F, #10, #12, #13, #15 to #22, #29 to #2C, #2E to #59 (01, The part of the T414 that we build)
+unfoldable pub isBuilt : ℕ → Bool
+isBuilt k =
+    leb k 0x10
+    || (leb 0x12 k && leb k 0x13)
+    || (leb 0x15 k && leb k 0x22)
+    || (leb 0x29 k && leb k 0x2C)
+    || (leb 0x2E k && leb k 0x59)
+
 -- 9 Unlisted: the byte was fetched, and makes an operation outside the built list. The byte at Iptr; its function is `opr`; and Oreg with its
--- nibble is no code of the table
+-- nibble is no code of the list
 abbrev pub nextByte : List ℕ → List ℕ → ℕ
 nextByte r mem = byteAt mem (getD r iptrReg 0) (begin r)
 
@@ -77,7 +84,7 @@ isUnlisted r mem =
     fetches r
     && ltb (index (getD r iptrReg 0)) (length mem)
     && eqb (nextByte r mem / 2 ^ 4) 0xF
-    && not (listed (withNibble (nextByte r mem) (getD r oreg 0)) operations)
+    && not (isBuilt (withNibble (nextByte r mem) (getD r oreg 0)))
 
 -- 10 Outside, of take and give: the byte at the pointer of a moving link
 abbrev pub pointerOutside : ℕ → List ℕ → List ℕ → Bool
