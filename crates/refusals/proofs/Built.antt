@@ -63,11 +63,17 @@ and-false : (b : Bool) → (b && false) ≡ false
 and-false true = refl
 and-false false = refl
 
+-- past a range, and past all five of them
+past : (a b k : ℕ) → b < k → (leb a k && leb k b) ≡ false
+past a b k h = rw (lt-leb k b h) (and-false (leb a k))
+
+none-of : (a b c d e : Bool) → a ≡ false → b ≡ false → c ≡ false → d ≡ false → e ≡ false → (a || b || c || d || e) ≡ false
+none-of a b c d e p q r s t = rw (p, q, r, s, t)
+
 built-above : (k : ℕ) → 0x5A ≤ k → isBuilt k ≡ false
 unfolding isBuilt
 built-above k l =
-    rw (lt-leb k 0x10 (omega arith), lt-leb k 0x13 (omega arith), lt-leb k 0x22 (omega arith), lt-leb k 0x2C (omega arith), lt-leb k 0x59 (omega arith))
-    (rw (and-false (leb 0x12 k), and-false (leb 0x15 k), and-false (leb 0x29 k), and-false (leb 0x2E k)))
+    none-of _ _ _ _ _ (lt-leb k _ (omega arith)) (past _ _ k (omega arith)) (past _ _ k (omega arith)) (past _ _ k (omega arith)) (past _ _ k (omega arith))
 
 pub built-listed : (k : ℕ) → isBuilt k ≡ listed k operations
 unfolding agree bounded operations isBuilt same
