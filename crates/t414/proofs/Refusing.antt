@@ -8,13 +8,16 @@ use lib.Dec.{ltb, leb}
 use lib.ListN.{length}
 use borrow.Author.Tests.{lt-ltb, le-ltb, le-leb, lt-leb, ltb-false, leb-false}
 use Rattle.rules.specs.Tests.{pick, ifEq}
-use Rattle.rules.specs.Work.{Work}
+use Rattle.rules.specs.Registers.{registers}
+use Rattle.rules.specs.Work.{Work, begin}
+use Rattle.rules.specs.Links as links
 use Rattle.rules.specs.Memory.{stores, touched}
 use Rattle.rules.specs.Journal.{frameBad}
 use Rattle.rules.specs.Calls.{Outcome, refused, memoryBad, journalBad, sizeBad, recorded, settled, checked, notOutput, notInput, clear, machineOf, undo, undoLast}
 use Rattle.rules.specs.declared.Machine.{Machine}
 use Rattle.rules.proofs.Tests.{yes-eq, no-eq, yes, no}
-use Rattle.laws.proofs.Fine.{Fine}
+use Rattle.laws.proofs.Fine.{Fine, Known, fine-begin}
+use Rattle.laws.proofs.FineLinks.{fine-tick, fine-take, fine-give, fine-event}
 use Rattle.store.specs.View.{view}
 use Rattle.store.specs.declared.Plan.{Plan}
 use Rattle.t414.specs.Checks.{firstBad}
@@ -164,8 +167,22 @@ module _ (badChannel : Bool) (m : Machine) (mem j : List ℕ) where
 
 -- ---- what a plan comes to
 
-pub known-of : (p : Plan) (w : Work) → view p ≡ w → Fine w → p .answer ≤ 12
+known-of : (p : Plan) (w : Work) → view p ≡ w → Fine Known w → p .answer ≤ 12
 known-of p w e f = omega (arith, ap (λ (x : Work). x .answer) e, f .known)
+
+module _ (regs : List ℕ) (h : length regs ≡ registers) (p : Plan) where
+  pub tick-known : view p ≡ links.tick (begin regs) → p .answer ≤ 12
+  tick-known e = known-of p (links.tick (begin regs)) e (fine-tick (fine-begin regs h))
+
+  pub event-known : view p ≡ links.event (begin regs) → p .answer ≤ 12
+  event-known e = known-of p (links.event (begin regs)) e (fine-event (λ z. omega arith) (fine-begin regs h))
+
+  pub take-known : (mem : List ℕ) (c : ℕ) → view p ≡ links.take mem c (begin regs) → p .answer ≤ 12
+  take-known mem c e = known-of p (links.take mem c (begin regs)) e (fine-take mem c (λ z. omega arith) (fine-begin regs h))
+
+  pub give-known : (mem : List ℕ) (c byte : ℕ) → view p ≡ links.give mem c byte (begin regs) → p .answer ≤ 12
+  give-known mem c byte e =
+      known-of p (links.give mem c byte (begin regs)) e (fine-give mem c byte (λ z. omega arith) (fine-begin regs h))
 
 module _ (m : Machine) (mem j : List ℕ) (byte : ℕ) (w : Work) where
   pub settled-refused : (w .answer ≡ 0 → ⊥) → refused (w .answer) m mem j ≡ settled m mem j byte w

@@ -5,9 +5,7 @@ use lib.ListN.{length}
 use mathlib.Core.Bool.{false}
 use Rattle.rules.specs.Registers.{registers}
 use Rattle.rules.specs.Calls.{event}
-use Rattle.laws.proofs.Fine.{fine-begin}
-use Rattle.laws.proofs.FineLinks.{fine-event}
-use Rattle.t414.proofs.Refusing.{number-known, stopped, passed, ready, known-of}
+use Rattle.t414.proofs.Refusing.{number-known, stopped, passed, ready, event-known}
 use borrow.Author.Needs.{needs}
 use Rattle.t414.proofs.event.Statement.{statement}
 use Rattle.t414.proofs.event.Tie as tie
@@ -48,7 +46,7 @@ settle-requires c κs =
     let a = S .args in
     let p = v .event .result in
     let e = rw (b .begin .ensures .0) at (v .event .ensures .0) in
-    ready false (a .m) (a .mem .now) (a .journal .now) (sym (f .first-bad .ensures) ∙ i .if1 .left) p (known-of p _ e (fine-event (fine-begin (a .m .regs) (long S)))) (omega (arith, v .event .ensures .1, b .begin .ensures)) (omega (arith, v .event .ensures .1, b .begin .ensures))
+    ready false (a .m) (a .mem .now) (a .journal .now) (sym (f .first-bad .ensures) ∙ i .if1 .left) p (event-known (a .m .regs) (long S) p e) (omega (arith, v .event .ensures .1, b .begin .ensures)) (omega (arith, v .event .ensures .1, b .begin .ensures))
 
 same-length : tie.Need-same-length
 same-length c = search needs

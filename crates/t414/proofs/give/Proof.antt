@@ -4,9 +4,7 @@ use Prim.Native.Nat.{_-_}
 use lib.ListN.{length}
 use Rattle.rules.specs.Registers.{registers}
 use Rattle.rules.specs.Calls.{give}
-use Rattle.laws.proofs.Fine.{fine-begin}
-use Rattle.laws.proofs.FineLinks.{fine-give}
-use Rattle.t414.proofs.Refusing.{number-known, stopped, passed, ready, known-of, channel-good, input-good}
+use Rattle.t414.proofs.Refusing.{number-known, stopped, passed, ready, give-known, channel-good, input-good}
 use borrow.Author.Needs.{needs}
 use Rattle.t414.proofs.give.Statement.{statement}
 use Rattle.t414.proofs.give.Tie as tie
@@ -60,7 +58,7 @@ settle-requires c κs =
     let a = S .args in
     let p = v .give .result in
     let e = rw (b .begin .ensures .0) at (v .give .ensures .0) in
-    ready (n .not-input .result) (a .m) (a .mem .now) (a .journal .now) (sym (f .first-bad .ensures) ∙ i .if1 .left) p (known-of p _ e (fine-give (a .mem .now) (a .channel) (a .byte) (fine-begin (a .m .regs) (long S)))) (omega (arith, v .give .ensures .1, b .begin .ensures)) (omega (arith, v .give .ensures .1, b .begin .ensures))
+    ready (n .not-input .result) (a .m) (a .mem .now) (a .journal .now) (sym (f .first-bad .ensures) ∙ i .if1 .left) p (give-known (a .m .regs) (long S) p (a .mem .now) (a .channel) (a .byte) e) (omega (arith, v .give .ensures .1, b .begin .ensures)) (omega (arith, v .give .ensures .1, b .begin .ensures))
 
 same-length : tie.Need-same-length
 same-length c = search needs

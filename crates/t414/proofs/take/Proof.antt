@@ -5,9 +5,7 @@ use lib.ListN.{length}
 use lib.Dec.{leb}
 use Rattle.rules.specs.Registers.{registers}
 use Rattle.rules.specs.Calls.{take, notOutput}
-use Rattle.laws.proofs.Fine.{fine-begin}
-use Rattle.laws.proofs.FineLinks.{fine-take}
-use Rattle.t414.proofs.Refusing.{number-known, stopped, passed, ready, known-of, channel-good, output-good}
+use Rattle.t414.proofs.Refusing.{number-known, stopped, passed, ready, take-known, channel-good, output-good}
 use borrow.Author.Needs.{needs}
 use Rattle.t414.proofs.take.Statement.{statement}
 use Rattle.t414.proofs.take.Tie as tie
@@ -66,7 +64,7 @@ settle-requires c κs =
     let a = S .args in
     let p = v .take .result in
     let e = rw (b .begin .ensures .0) at (v .take .ensures .0) in
-    ready (leb 4 (a .channel)) (a .m) (a .mem .now) (a .journal .now) (sym (f .first-bad .ensures) ∙ i .if1 .left) p (known-of p _ e (fine-take (a .mem .now) (a .channel) (fine-begin (a .m .regs) (long S)))) (omega (arith, v .take .ensures .1, b .begin .ensures)) (omega (arith, v .take .ensures .1, b .begin .ensures))
+    ready (leb 4 (a .channel)) (a .m) (a .mem .now) (a .journal .now) (sym (f .first-bad .ensures) ∙ i .if1 .left) p (take-known (a .m .regs) (long S) p (a .mem .now) (a .channel) e) (omega (arith, v .take .ensures .1, b .begin .ensures)) (omega (arith, v .take .ensures .1, b .begin .ensures))
 
 same-length : tie.Need-same-length
 same-length c = search needs
