@@ -90,6 +90,17 @@ isUnlisted r mem =
 abbrev pub pointerOutside : ℕ → List ℕ → List ℕ → Bool
 pointerOutside c r mem = isMoving c r && leb (length mem) (index (getD r (pointerReg c) 0))
 
+-- 10 Outside and 11 Stop, of step: what it does where it is not halted, (a), (b) or (c), makes its accesses in 000's order; the first one outside
+-- memory makes its answer 10, the first Stop 11, and nothing is accessed after it (crates/rules/specs/Work.antt)
+abbrev pub ownAnswer : List ℕ → List ℕ → ℕ
+ownAnswer r mem = steps.choose mem (begin r) .answer
+
+abbrev pub stepOutside : List ℕ → List ℕ → Bool
+stepOutside r mem = eqb (ownAnswer r mem) 10
+
+abbrev pub stepStops : List ℕ → List ℕ → Bool
+stepStops r mem = eqb (ownAnswer r mem) 11
+
 -- 12 JournalFull: the record of the worked-out call does not fit after used
 abbrev pub full : Machine → List ℕ → List ℕ → Work → Bool
 full m mem j w = ltb (length j) (m .used + recordLength (length (touched (length mem) (w .stored))))
@@ -124,11 +135,6 @@ module _ (m : Machine) (mem j : List ℕ) where
       ∷ (4, pairOutside m mem j)
       ∷ []
 
-  -- what a step does where it is not halted: (a), (b) or (c), by its accesses in 000's order. The first access outside memory makes its answer 10,
-  -- the first Stop 11, and nothing is accessed after it (crates/rules/specs/Work.antt)
-  abbrev pub ownAnswer : ℕ
-  ownAnswer = steps.choose mem (begin (m .regs)) .answer
-
   abbrev pub stepNumbers : List (ℕ × Bool)
   stepNumbers =
       (1, sizeBad mem j)
@@ -136,8 +142,8 @@ module _ (m : Machine) (mem j : List ℕ) where
       ∷ (6, isHalted (m .regs))
       ∷ (7, isIdle (m .regs))
       ∷ (9, isUnlisted (m .regs) mem)
-      ∷ (10, eqb ownAnswer 10)
-      ∷ (11, eqb ownAnswer 11)
+      ∷ (10, stepOutside (m .regs) mem)
+      ∷ (11, stepStops (m .regs) mem)
       ∷ (12, full m mem j (steps.step mem (begin (m .regs))))
       ∷ []
 
