@@ -1,17 +1,17 @@
 -- THE LAW of undo: after any stores that were recorded, undo gives back registers, memory, depth and used. Assumes nothing.
-use mathlib.Core.Path.{_≡_, refl, sym, ap, _∙_}
-use mathlib.Core.Bool.{Bool, true, false, _||_}
-use mathlib.Core.List.{List, [], _∷_, _++_}
-use Prim.Native.Nat.{ℕ, _+_, _-_, _*_, _≤_, _<_}
+use mathlib.Core.Path.{_≡_, _∙_}
+use mathlib.Core.Bool.{false}
+use mathlib.Core.List.{List, _++_}
+use Prim.Native.Nat.{ℕ, _+_, _-_, _≤_}
 use native.Mathlib.Omega.{arith}
 use lib.ListN.{length, take, drop, length-append}
 use lib.Seq.{sets, sets-eq, length-sets, length-take-le, take-at}
 use Rattle.rules.specs.Registers.{registers}
 use Rattle.rules.specs.Memory.{Store, stores, touched}
 use Rattle.rules.specs.Journal.{recordLength, recordOf, frameBad, lastPairs, lastStart, lastRegs, pairsAt, writeBack, strays}
-use Rattle.rules.specs.Calls.{Outcome, machineOf, sizeBad, memoryBad, journalBad, checked, recorded, undone, undoLast, undo}
+use Rattle.rules.specs.Calls.{Outcome, machineOf, sizeBad, checked, recorded, undone, undoLast, undo}
 use Rattle.rules.specs.declared.Machine.{Machine}
-use Rattle.rules.proofs.Tests.{yes-lt, no-lt, no-eq, no, cases-lt}
+use Rattle.rules.proofs.Tests.{yes-lt, no-lt, no-eq, cases-lt}
 use Rattle.laws.proofs.Stores.{length-stores}
 use Rattle.laws.proofs.Touched.{touched-below, outside-touched, length-record}
 use Rattle.history.proofs.Records.{pairsOf, strays-none, written-back, last-pairs, last-start, last-regs, last-read}

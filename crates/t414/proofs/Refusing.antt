@@ -1,21 +1,21 @@
 -- The checks before a call's own, by their number. Assumes nothing.
-use mathlib.Core.Path.{_≡_, refl, sym, ap, _∙_}
+use mathlib.Core.Path.{_≡_, refl, ap, _∙_}
 use mathlib.Core.Bool.{Bool, true, false, _||_}
 use mathlib.Core.List.{List}
 use Prim.Native.Nat.{ℕ, suc, _≤_, _<_}
 use native.Mathlib.Omega.{arith}
 use lib.Dec.{ltb, leb}
 use lib.ListN.{length}
-use borrow.Author.Tests.{lt-ltb, le-ltb, le-leb, lt-leb, ltb-false, leb-false}
+use borrow.Author.Tests.{lt-ltb, le-ltb, ltb-false, leb-false}
 use Rattle.rules.specs.Tests.{pick, ifEq}
 use Rattle.rules.specs.Registers.{registers}
 use Rattle.rules.specs.Work.{Work, begin}
 use Rattle.rules.specs.Links as links
 use Rattle.rules.specs.Memory.{stores, touched}
 use Rattle.rules.specs.Journal.{frameBad}
-use Rattle.rules.specs.Calls.{Outcome, refused, memoryBad, journalBad, sizeBad, recorded, settled, checked, notOutput, notInput, clear, machineOf, undo, undoLast}
+use Rattle.rules.specs.Calls.{Outcome, refused, memoryBad, journalBad, sizeBad, recorded, settled, checked, notInput, clear, machineOf, undo, undoLast}
 use Rattle.rules.specs.declared.Machine.{Machine}
-use Rattle.rules.proofs.Tests.{yes-eq, no-eq, yes, no}
+use Rattle.rules.proofs.Tests.{yes-eq, no-eq}
 use Rattle.laws.proofs.Fine.{Fine, Known, fine-begin}
 use Rattle.laws.proofs.FineLinks.{fine-tick, fine-take, fine-give, fine-event}
 use Rattle.store.specs.View.{view}
@@ -60,10 +60,6 @@ input-low c h = rw (lt-ltb c 4 h)
 pub input-high : (c : ℕ) → 4 ≤ c → leb 8 c ≡ notInput c
 unfolding notInput
 input-high c h = rw (le-ltb c 4 h)
-
-pub output-is : (c : ℕ) → leb 4 c ≡ notOutput c
-unfolding notOutput
-output-is c = refl
 
 pub output-good : (c : ℕ) → leb 4 c ≡ false → c < 4
 output-good c e = leb-false 4 c e
