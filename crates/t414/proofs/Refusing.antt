@@ -11,6 +11,7 @@ use Rattle.rules.specs.Tests.{pick, ifEq}
 use Rattle.rules.specs.Registers.{registers}
 use Rattle.rules.specs.Work.{Work, begin}
 use Rattle.rules.specs.Links as links
+use Rattle.rules.specs.Step as steps
 use Rattle.rules.specs.Memory.{stores, touched}
 use Rattle.rules.specs.Journal.{frameBad}
 use Rattle.rules.specs.Calls.{Outcome, refused, memoryBad, journalBad, sizeBad, recorded, settled, checked, notInput, clear, machineOf, undo, undoLast}
@@ -18,6 +19,7 @@ use Rattle.rules.specs.declared.Machine.{Machine}
 use Rattle.rules.proofs.Tests.{yes-eq, no-eq}
 use Rattle.laws.proofs.Fine.{Fine, Known, fine-begin}
 use Rattle.laws.proofs.FineLinks.{fine-tick, fine-take, fine-give, fine-event}
+use Rattle.laws.proofs.FineStep.{fine-step}
 use Rattle.store.specs.View.{view}
 use Rattle.store.specs.declared.Plan.{Plan}
 use Rattle.t414.specs.Checks.{firstBad}
@@ -169,6 +171,11 @@ known-of p w e f = omega (arith, ap (λ (x : Work). x .answer) e, f .known)
 module _ (regs : List ℕ) (h : length regs ≡ registers) (p : Plan) where
   pub tick-known : view p ≡ links.tick (begin regs) → p .answer ≤ 12
   tick-known e = known-of p (links.tick (begin regs)) e (fine-tick (fine-begin regs h))
+
+  pub step-known : (mem : List ℕ) → view p ≡ steps.step mem (begin regs) → p .answer ≤ 12
+  step-known mem e =
+      known-of p (steps.step mem (begin regs)) e
+      (fine-step mem (λ z. omega arith) (λ z. omega arith) (λ z. omega arith) (fine-begin regs h))
 
   pub event-known : view p ≡ links.event (begin regs) → p .answer ≤ 12
   event-known e = known-of p (links.event (begin regs)) e (fine-event (λ z. omega arith) (fine-begin regs h))

@@ -30,6 +30,19 @@ pub fn fresh(mem: &mut [u32], journal: &mut [u32], code: &[u8]) -> Reply
     }
 }
 
+// One step of the machine.
+pub fn step(m: Machine, mem: &mut [u32], journal: &mut [u32]) -> Reply
+    ensures { λ r. ⌜ outcomeOf r (now (mem .exit)) (now (journal .exit)) ≡ rules.step m (now (mem .entry)) (now (journal .entry)) ⌝ }
+{
+    let number = checks::first_bad(false, mem.len(), journal.len(), m.depth, m.used);
+    if number != 0 {
+        return settle::refuse(m, number);
+    }
+    let regs = m.regs;
+    let p = engine::step(regs, mem);
+    settle::settle(m, p, 0, mem, journal)
+}
+
 // The clocks go on by one.
 pub fn tick(m: Machine, mem: &mut [u32], journal: &mut [u32]) -> Reply
     ensures { λ r. ⌜ outcomeOf r (now (mem .exit)) (now (journal .exit)) ≡ rules.tick m (now (mem .entry)) (now (journal .entry)) ⌝ }
