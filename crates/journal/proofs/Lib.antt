@@ -4,3 +4,5 @@ pub mod Merge
 pub mod Written
 pub mod Outcomes
 pub mod Undo
+pub mod Single
+pub mod Brief

@@ -15,9 +15,12 @@ ghost use Rattle.rules.specs.Calls.{outcomeOf, recorded, undoLast};
 ghost use Rattle.store.specs.View.{view};
 
 mod back;
+mod common;
 mod make;
 mod record;
 mod survey;
+
+pub use common::commit_common;
 
 // The words of a record besides its pairs.
 const FRAME: usize = REGISTERS + 1;
