@@ -1,13 +1,13 @@
 // The commit of a common step: its record has no pair or one. The same words as the commit of a plan would write, with less work.
+use crate::FRAME;
 use crate::is_full;
 use crate::record::put_regs;
 use crate::refusal;
-use crate::FRAME;
 use rules::Answer;
 use rules::Core;
 use rules::Machine;
-use rules::Reply;
 use rules::REGISTERS;
+use rules::Reply;
 use swift::Swift;
 ghost use mathlib.Core.Path.{_≡_};
 ghost use mathlib.Core.Bool.{false};

@@ -30,7 +30,7 @@ pub fn fresh(mem: &mut [u32], journal: &mut [u32], code: &[u8]) -> Reply
     }
 }
 
-// One step of the machine.
+// One step of the machine. Nearly every step is a common one, which needs no plan (crate swift); the engine does the others.
 pub fn step(m: Machine, mem: &mut [u32], journal: &mut [u32]) -> Reply
     ensures { λ r. ⌜ outcomeOf r (now (mem .exit)) (now (journal .exit)) ≡ rules.step m (now (mem .entry)) (now (journal .entry)) ⌝ }
 {
@@ -39,6 +39,11 @@ pub fn step(m: Machine, mem: &mut [u32], journal: &mut [u32]) -> Reply
         return settle::refuse(m, number);
     }
     let regs = m.regs;
+    let t = swift::common_step(mem, regs);
+    let common = t.done;
+    if common {
+        return journal::commit_common(m, t, mem, journal);
+    }
     let p = engine::step(regs, mem);
     settle::settle(m, p, 0, mem, journal)
 }

@@ -24,6 +24,5 @@ returns c =
     let a = q .before .before .before .before .args in
     rw (g .put-tail .ensures, q .put-pair .ensures) (one-written (a .journal .now) (a .mem .now) (a .regs) (a .i) (a .used))
 
-
 pub append-one-spec : {M : Type 1} → statement M
 append-one-spec = tie.close (tie.spec add-at put-pair-requires put-tail-requires same-length returns)

@@ -56,6 +56,5 @@ returns-3 c =
     let a = i .before .before .before .before .args in
     g .commit-none2 .ensures ∙ common-none (a .m) (a .mem .now) (a .journal .now) (a .t) (i .if1 .left)
 
-
 pub commit-common-spec : {M : Type 1} → statement M
 commit-common-spec = tie.close (tie.spec cast-if2 commit-one-requires same-length same-length-2 returns commit-none-requires same-length-3 same-length-4 returns-2 commit-none-requires-2 same-length-5 same-length-6 returns-3)

@@ -59,6 +59,5 @@ returns-2 c =
     (commit-done (a .m) (a .mem .now) (a .journal .now) 0 (withCore (a .s) (a .m .regs)) [] (a .mem .now) 0 _ _ refl
     (ltb-false _ _ (sym (f .is-full .ensures) ∙ i .if1 .left)) refl (g .put-tail .ensures ∙ none-written (a .journal .now) (a .mem .now) (a .m .regs) (a .m .used)))
 
-
 pub commit-none-spec : {M : Type 1} → statement M
 commit-none-spec = tie.close (tie.spec is-full-requires refusal-requires returns put-tail-requires stepped-requires same-length returns-2)

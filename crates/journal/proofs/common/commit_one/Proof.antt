@@ -69,6 +69,5 @@ returns-2 c =
     (commit-done (a .m) (a .mem .now) (a .journal .now) 0 (withCore (a .s) (a .m .regs)) (a .i ∷ []) (set (a .mem .now) (a .i) (a .v)) 1 _ _ refl
     (ltb-false _ _ (sym (f .is-full .ensures) ∙ i .if1 .left)) refl (g .append-one .ensures))
 
-
 pub commit-one-spec : {M : Type 1} → statement M
 commit-one-spec = tie.close (tie.spec is-full-requires refusal-requires returns append-one-requires mul-mem slice-write-mem stepped-requires same-length same-length-2 returns-2)

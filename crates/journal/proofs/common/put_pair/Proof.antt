@@ -33,6 +33,5 @@ same-length c = simp length-set
 returns : tie.Need-returns
 returns c = rw (add-one (c .before .args .at))
 
-
 pub put-pair-spec : {M : Type 1} → statement M
 put-pair-spec = tie.close (tie.spec add-next mul-journal slice-write-journal mul-journal-2 shared-slice-read-journal mul-journal-3 slice-write-journal-2 same-length returns)

@@ -31,6 +31,5 @@ returns c =
     let S = g .before .before in
     rw (g .put-regs .ensures) (tail-written (S .before .args .journal .now) (S .before .args .regs) (S .before .args .at) (S .before .args .n) (long (S .before)))
 
-
 pub put-tail-spec : {M : Type 1} → statement M
 put-tail-spec = tie.close (tie.spec add-last put-regs-requires mul-journal slice-write-journal same-length returns)

@@ -22,6 +22,5 @@ add-t9 c = search needs
 returns : tie.Need-returns
 returns c = (c .before .before .with-core .ensures, search needs, omega arith)
 
-
 pub stepped-spec : {M : Type 1} → statement M
 stepped-spec = tie.close (tie.spec with-core-requires add-t6 mul-t7 add-t8 add-t9 returns)

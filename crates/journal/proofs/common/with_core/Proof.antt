@@ -30,6 +30,5 @@ returns : tie.Need-returns
 unfolding withCore
 returns c = search needs
 
-
 pub with-core-spec : {M : Type 1} → statement M
 with-core-spec = tie.close (tie.spec array-write-t array-write-t-2 array-write-t-3 array-write-t-4 array-write-t-5 array-write-t-6 array-write-t-7 returns)
