@@ -1,11 +1,11 @@
 -- Tests of sizes, in the code's form and in the definitions'. Assumes nothing.
-use mathlib.Core.Path.{_≡_, refl, sym, ap, _∙_}
+use mathlib.Core.Path.{_≡_, refl}
 use mathlib.Core.Bool.{Bool, true, false, _||_, _&&_}
 use Prim.Native.Nat.{ℕ, _+_, _-_, _*_, _/_, _≤_, _<_}
 use native.Mathlib.Decide.{decLt}
 use native.Mathlib.Omega.{arith}
 use lib.Dec.{ltb, leb}
-use borrow.Author.Tests.{lt-ltb, le-ltb, lt-leb, le-leb, leb-true, ltb-true, ltb-false}
+use borrow.Author.Tests.{lt-ltb, le-ltb, lt-leb, le-leb, leb-true, ltb-false}
 use Rattle.rules.specs.Registers.{registers}
 use Rattle.rules.specs.Memory.{within}
 use Rattle.rules.specs.Journal.{recordLength, frameBad}
@@ -41,6 +41,10 @@ module _ (size depth used : ℕ) where
       neither : (a b : Bool) → a || b ≡ false → (a ≡ false) × (b ≡ false)
       neither true b e = let z : _≡_ {A = ℕ} 0 1 = cc in absurd (omega arith)
       neither false b e = (refl, e)
+
+pub frame-is : (size depth used : ℕ) → used ≤ size → recordLength 0 * depth ≤ used → frameBad size depth used ≡ false
+unfolding frameBad
+frame-is size depth used h k = rw (le-ltb size used h, le-ltb used (recordLength 0 * depth) k)
 
 pub full : (size used n : ℕ) → used ≤ size → ltb (size - used) (registers + 1 + 2 * n) ≡ ltb size (used + recordLength n)
 full size used n h =

@@ -1,14 +1,14 @@
 -- What a commit and an undo come to, as the code finds it. Assumes nothing.
-use mathlib.Core.Path.{_≡_, refl, sym, ap, _∙_}
-use mathlib.Core.Bool.{Bool, true, false}
-use mathlib.Core.List.{List, [], _∷_, _++_}
-use Prim.Native.Nat.{ℕ, _+_, _-_, _*_, _≤_, _<_}
+use mathlib.Core.Path.{_≡_, refl}
+use mathlib.Core.Bool.{true, false}
+use mathlib.Core.List.{List}
+use Prim.Native.Nat.{ℕ, _+_, _-_, _≤_, _<_}
 use native.Mathlib.Omega.{arith}
 use lib.ListN.{length, getD, take, drop}
 use lib.Seq.{sets}
 use Rattle.rules.specs.Registers.{registers}
 use Rattle.rules.specs.Journal.{recordLength, recordOf, lastPairs, lastStart, lastRegs, pairsAt, writeBack, strays}
-use Rattle.rules.specs.Calls.{Outcome, numberOf, outcomeOf, refused, machineOf, recorded, undone, undoLast}
+use Rattle.rules.specs.Calls.{numberOf, outcomeOf, refused, machineOf, recorded, undone, undoLast}
 use Rattle.rules.specs.declared.Machine.{Machine}
 use Rattle.rules.specs.declared.Reply.{Reply}
 use Rattle.rules.specs.declared.Answer.{Answer}

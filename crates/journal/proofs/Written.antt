@@ -1,6 +1,6 @@
 -- What the loops over a journal and a memory leave: one turn of each, and the end. Assumes nothing.
 use mathlib.Core.Path.{_≡_, refl, sym, ap, _∙_}
-use mathlib.Core.Bool.{Bool, true, false}
+use mathlib.Core.Bool.{true, false}
 use mathlib.Core.List.{List, [], _∷_, _++_, append-nil}
 use Prim.Native.Nat.{ℕ, zero, suc, _+_, _-_, _*_, _≤_, _<_}
 use native.Mathlib.Nat.{add-suc, suc-add, add-zero}
@@ -10,10 +10,9 @@ use lib.ListN.{length, getD, set, take, drop, length-drop, drop-of-length-le, le
 use lib.Seq.{slice, slice-cons, sets, sets-eq, drop-cons, getD-take, getD-drop, length-take-le, length-slice}
 use lib.Dec.{ltb}
 use borrow.Author.Tests.{lt-ltb, le-ltb, ltb-true, ltb-false}
-use Rattle.rules.specs.Tests.{pick}
 use Rattle.rules.specs.Registers.{registers}
-use Rattle.rules.specs.Memory.{Store, word, bytes, moved, within, storing, stores}
-use Rattle.rules.specs.Journal.{recordLength, olds, recordOf, pairsAt, writeBack, strays}
+use Rattle.rules.specs.Memory.{word, moved, within, storing, stores}
+use Rattle.rules.specs.Journal.{olds, recordOf, pairsAt, writeBack, strays}
 use Rattle.rules.proofs.Tests.{by-bool}
 use Rattle.laws.proofs.Stores.{stores-append}
 use Rattle.laws.proofs.Touched.{length-olds}

@@ -14,10 +14,13 @@ ghost use Rattle.rules.specs.Journal as rules;
 ghost use Rattle.rules.specs.Calls.{outcomeOf, recorded, undoLast};
 ghost use Rattle.store.specs.View.{view};
 
-pub mod back;
-pub mod make;
-pub mod record;
-pub mod survey;
+mod back;
+mod common;
+mod make;
+mod record;
+mod survey;
+
+pub use common::commit_common;
 
 // The words of a record besides its pairs.
 const FRAME: usize = REGISTERS + 1;

@@ -76,7 +76,7 @@ fn put_pairs(journal: &mut [u32], mem: &[u32], o: Outline, at: usize)
 }
 
 // Writes the registers.
-fn put_regs(journal: &mut [u32], regs: [u32; REGISTERS], at: usize)
+pub fn put_regs(journal: &mut [u32], regs: [u32; REGISTERS], at: usize)
     requires { ⌜ at + registers ≤ length (now journal) ⌝ }
     ensures { λ _. ⌜ now (journal .exit) ≡ sets (now (journal .entry)) at regs ⌝ }
 {

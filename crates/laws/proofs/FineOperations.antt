@@ -48,6 +48,10 @@ function-is : (code : ℕ) (m : List ℕ) (w : Work) → function code m w ≡ l
 unfolding function functions
 function-is code m w = refl
 
+pub function-opr : (m : List ℕ) (w : Work) → function 0xF m w ≡ operate (reg oreg w) m w
+unfolding function functions
+function-opr m w = refl
+
 -- a code without a row gets the default
 pub look-unlisted : (t : List (ℕ × Action)) (k : ℕ) (d : Action) → listed k t ≡ false → look t k d ≡ d
 look-unlisted [] k d h = refl

@@ -1,7 +1,7 @@
 -- One byte of a word, one byte of the memory, and a move of bytes, one after the other. Assumes nothing.
-use mathlib.Core.Path.{_≡_, refl, sym, ap, _∙_}
-use mathlib.Core.List.{List, [], _∷_}
-use Prim.Native.Nat.{ℕ, zero, suc, _+_, _-_, _*_, _/_, _%_, _^_, _≤_, _<_}
+use mathlib.Core.Path.{_≡_, refl}
+use mathlib.Core.List.{List}
+use Prim.Native.Nat.{ℕ, zero, suc, _+_, _-_, _*_, _/_, _%_, _^_, _<_}
 use native.Mathlib.Nat.{suc-add, zero-add, add-zero}
 use native.Mathlib.Decide.{decLt, ℕ-discrete}
 use native.Mathlib.Omega.{arith}
@@ -18,10 +18,6 @@ by-four P (suc zero) h a b c d = b
 by-four P (suc (suc zero)) h a b c d = c
 by-four P (suc (suc (suc zero))) h a b c d = d
 by-four P (suc (suc (suc (suc j)))) h a b c d = absurd (omega arith)
-
-pub same-byte : (j b w : ℕ) → j < 4 → b < 256 → byteOf j (withByte j b w) ≡ b
-same-byte j b w h k =
-    by-four (λ (i : ℕ). byteOf i (withByte i b w) ≡ b) j h (omega arith) (omega arith) (omega arith) (omega arith)
 
 module _ (b w : ℕ) (l : b < 256) where
   abbrev Other : ℕ → ℕ → Type 0
@@ -52,12 +48,6 @@ module _ (m : List ℕ) (a b : ℕ) (h : a < 4 * length m) (k : b < 256) where
   in-words : a / 4 < length m
   in-words = omega arith
 
-  pub byte-same : byteIn (setByteIn m a b) a ≡ b
-  unfolding byteIn setByteIn
-  byte-same =
-      rw (getD-set-same m (a / 4) (withByte (a % 4) b (getD m (a / 4) 0)) 0 in-words)
-      (same-byte (a % 4) b (getD m (a / 4) 0) (omega arith) k)
-
   pub byte-other : (c : ℕ) → (c ≡ a → ⊥) → byteIn (setByteIn m a b) c ≡ byteIn m c
   unfolding byteIn setByteIn
   byte-other c n =
@@ -69,12 +59,6 @@ module _ (m : List ℕ) (a b : ℕ) (h : a < 4 * length m) (k : b < 256) where
       ]
 
 -- ---- the move
-
-pub moved-length : (n : ℕ) (m : List ℕ) (s d : ℕ) → length (moved m s d n) ≡ length m
-unfolding moved
-moved-length zero m s d = refl
-moved-length (suc n) m s d =
-    moved-length n (setByteIn m d (byteIn m s)) (s + 1) (d + 1) ∙ set-byte-length m d (byteIn m s)
 
 pub moved-zero : (m : List ℕ) (s d n : ℕ) → n ≡ 0 → moved m s d n ≡ m
 unfolding moved

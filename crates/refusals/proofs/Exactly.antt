@@ -10,7 +10,7 @@ use lib.ListN.{length, getD}
 use Rattle.rules.specs.Tests.{pick, ifLt, ifEq, ifSet}
 use borrow.Author.Tests.{le-leb, lt-leb, eq-eqb, ne-eqb}
 use Rattle.rules.specs.Words.{index}
-use Rattle.rules.specs.Registers.{pointerReg, countReg, channelReg, activeBit, heldBit, eventChannel, flagsReg, statusReg, oreg, idleFlag, haltedFlag, linkChans}
+use Rattle.rules.specs.Registers.{registers, pointerReg, countReg, channelReg, activeBit, heldBit, eventChannel, flagsReg, statusReg, oreg, idleFlag, haltedFlag, linkChans}
 use Rattle.rules.specs.Memory.{Store, touched, stores}
 use Rattle.rules.specs.Work.{Work, begin, put, raise, lower, access, refuseAt, refuse, append, storeByte, kindLoad, kindStore}
 use Rattle.rules.specs.Timers.{timerReady}
@@ -20,7 +20,8 @@ use Rattle.rules.specs.Step as steps
 use Rattle.rules.specs.Calls as rules
 use Rattle.rules.specs.declared.Machine.{Machine}
 use Rattle.rules.proofs.Tests.{yes-lt, no-lt, yes-eq, no-eq, yes, no, by-bool, cases-eq, cases-lt, on-eq, on-lt, on-le, on-pick}
-use Rattle.refusals.specs.Conditions.{firstOf, frame, lastTooLong, pairOutside, nothingToUndo, isHalted, asked, isIdle, isMoving, isHeld, takeNotReady, giveNotReady, pointerOutside, full, tickNumbers, takeNumbers, giveNumbers, eventNumbers, undoNumbers, clearNumbers, freshNumbers, ownAnswer, stepNumbers}
+use Rattle.refusals.specs.Conditions.{firstOf, frame, lastTooLong, pairOutside, nothingToUndo, isHalted, asked, isIdle, isUnlisted, isMoving, isHeld, takeNotReady, giveNotReady, pointerOutside, full, tickNumbers, takeNumbers, giveNumbers, eventNumbers, undoNumbers, clearNumbers, freshNumbers, stepOutside, stepStops, stepNumbers}
+use Rattle.refusals.proofs.Own.{own-first}
 
 -- an answer picked is the picked answer
 answer-of : (t : Bool) (o p : rules.Outcome) → pick t o p .answer ≡ pick t (o .answer) (p .answer)
@@ -223,24 +224,28 @@ module _ (r mem : List ℕ) where
       (λ o. rw (yes-eq o, unasked-answer (not-true (asked r) (rw (no-eq i, yes-eq o) at h))) (idle-answer i))
       (λ o. rw (no-eq o) (idle-answer i)))
 
-  own-picked : (n : ℕ) → pick (not (eqb n 0)) n 0 ≡ n
-  own-picked n = cases-eq n 0 (λ e. rw (eq-eqb n 0 e) (sym e)) (λ e. rw (ne-eqb n 0 e))
-
-  step-own : steps.step mem (begin r) .answer
-      ≡ firstOf ((6, isHalted r) ∷ (7, isIdle r) ∷ (steps.choose mem (begin r) .answer, not (eqb (steps.choose mem (begin r) .answer) 0)) ∷ [])
+  step-own : length r ≡ registers → steps.step mem (begin r) .answer
+      ≡ firstOf ((6, isHalted r) ∷ (7, isIdle r) ∷ (9, isUnlisted r mem) ∷ (10, stepOutside r mem) ∷ (11, stepStops r mem) ∷ [])
   unfolding steps.step firstOf
-  step-own =
+  step-own k =
       cases-eq (bitAnd (getD r flagsReg 0) haltedFlag) 0
       (λ h. rw (yes-eq h, yes-eq h, halt-answer (getD r statusReg 0) (steps.choose mem (begin r)))
-      (by-bool (isIdle r) (λ i. rw i (idle-own i)) (λ i. rw (i, own-picked (steps.choose mem (begin r) .answer)))))
+      (by-bool (isIdle r) (λ i. rw i (idle-own i)) (λ i. rw i (sym (own-first r mem k i)))))
       (λ h. rw (no-eq h, no-eq h) (refuse-answer 6 r))
 
-module _ (m : Machine) (mem j : List ℕ) where
-  pub step-exactly : rules.step m mem j .answer ≡ firstOf (stepNumbers m mem j)
-  unfolding rules.step firstOf
-  step-exactly =
-      checked-answer false m mem j (rules.settled m mem j 0 (steps.step mem (begin (m .regs))))
-      ((6, isHalted (m .regs)) ∷ (7, isIdle (m .regs)) ∷ (ownAnswer m mem j, not (eqb (ownAnswer m mem j) 0)) ∷ (12, full m mem j (steps.step mem (begin (m .regs)))) ∷ [])
-      (settled-answer m mem j 0 (steps.step mem (begin (m .regs)))
-      ((6, isHalted (m .regs)) ∷ (7, isIdle (m .regs)) ∷ (ownAnswer m mem j, not (eqb (ownAnswer m mem j) 0)) ∷ [])
-      (λ t. omega arith, (λ t. omega arith, (λ t e. never (rw (eq-eqb (ownAnswer m mem j) 0 e) at t), tt))) (step-own (m .regs) mem))
+-- of a machine of 45 registers
+pub step-exactly : (m : Machine) (mem j : List ℕ) → length (m .regs) ≡ registers → rules.step m mem j .answer ≡ firstOf (stepNumbers m mem j)
+unfolding rules.step firstOf
+step-exactly m mem j h =
+    checked-answer false m mem j (rules.settled m mem j 0 (steps.step mem (begin (m .regs)))) (own ++ ((12, full m mem j (steps.step mem (begin (m .regs)))) ∷ []))
+    (settled-answer m mem j 0 (steps.step mem (begin (m .regs))) own
+    (λ t. omega arith, (λ t. omega arith, (λ t. omega arith, (λ t. omega arith, (λ t. omega arith, tt))))) (step-own (m .regs) mem h))
+  where
+    own : List (ℕ × Bool)
+    own =
+        (6, isHalted (m .regs))
+        ∷ (7, isIdle (m .regs))
+        ∷ (9, isUnlisted (m .regs) mem)
+        ∷ (10, stepOutside (m .regs) mem)
+        ∷ (11, stepStops (m .regs) mem)
+        ∷ []

@@ -1,1 +1,3 @@
+pub mod Built
+pub mod Own
 pub mod Exactly

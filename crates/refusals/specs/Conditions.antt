@@ -1,15 +1,15 @@
 -- The table of 01, "Answers by number": each number's condition as a definition of its own, and for each call its numbers in the table's order.
 -- A call answers with the first number whose condition holds, and 0 where none does (proofs/Exactly.antt).
-use Prim.Native.Nat.{ℕ, _+_}
+use Prim.Native.Nat.{ℕ, _+_, _/_, _^_}
 use mathlib.Core.Bool.{Bool, true, false, _&&_, _||_, not}
 use mathlib.Core.List.{List, [], _∷_}
 use lib.Dec.{ltb, leb, eqb}
 use lib.ListN.{length, getD}
 use Rattle.rules.specs.Tests.{pick, ifEq, ifSet}
-use Rattle.rules.specs.Registers.{oreg, statusReg, flagsReg, pointerReg, countReg, channelReg, haltedFlag, idleFlag, activeBit, heldBit, linkChans, eventChannel}
-use Rattle.rules.specs.Words.{index}
+use Rattle.rules.specs.Registers.{iptrReg, oreg, statusReg, flagsReg, pointerReg, countReg, channelReg, haltedFlag, idleFlag, activeBit, heldBit, linkChans, eventChannel}
+use Rattle.rules.specs.Words.{index, withNibble}
 use Rattle.rules.specs.Memory.{touched}
-use Rattle.rules.specs.Work.{Work, begin}
+use Rattle.rules.specs.Work.{Work, begin, byteAt}
 use Rattle.rules.specs.Timers.{timerReady}
 use Rattle.rules.specs.Channels.{requested}
 use Rattle.rules.specs.Journal.{recordLength, frameBad, lastPairs, lastStart, pairsAt, strays}
@@ -42,12 +42,15 @@ nothingToUndo m = eqb (m .depth) 0
 abbrev pub isHalted : List ℕ → Bool
 isHalted r = ifSet haltedFlag (getD r flagsReg 0) true false
 
--- 7 Idle: idle, and neither (a) nor (b) applies
+-- 7 Idle: idle, and neither (a) nor (b) applies, so that (c) would
 abbrev pub asked : List ℕ → Bool
 asked r = ltb (requested (begin r)) linkChans || timerReady 0 (begin r) || timerReady 1 (begin r)
 
+abbrev pub fetches : List ℕ → Bool
+fetches r = ifEq (getD r oreg 0) 0 (not (asked r)) true
+
 unfoldable pub isIdle : List ℕ → Bool
-isIdle r = ifSet idleFlag (getD r flagsReg 0) (ifEq (getD r oreg 0) 0 (not (asked r)) true) false
+isIdle r = ifSet idleFlag (getD r flagsReg 0) (fetches r) false
 
 -- 8 NotReady
 abbrev pub isMoving : ℕ → List ℕ → Bool
@@ -62,9 +65,41 @@ takeNotReady c r = not (isMoving c r)
 abbrev pub giveNotReady : ℕ → List ℕ → Bool
 giveNotReady c r = not (isMoving c r) && isHeld c r
 
+-- the built list: #00 to #0F, #10, #12, #13, #15 to #22, #29 to #2C, #2E to #59 (01, The part of the T414 that we build)
+unfoldable pub isBuilt : ℕ → Bool
+isBuilt k =
+    leb k 0x10
+    || (leb 0x12 k && leb k 0x13)
+    || (leb 0x15 k && leb k 0x22)
+    || (leb 0x29 k && leb k 0x2C)
+    || (leb 0x2E k && leb k 0x59)
+
+-- 9 Unlisted: the byte was fetched, and makes an operation outside the built list. The byte at Iptr; its function is `opr`; and Oreg with its
+-- nibble is no code of the list
+abbrev pub nextByte : List ℕ → List ℕ → ℕ
+nextByte r mem = byteAt mem (getD r iptrReg 0) (begin r)
+
+unfoldable pub isUnlisted : List ℕ → List ℕ → Bool
+isUnlisted r mem =
+    fetches r
+    && ltb (index (getD r iptrReg 0)) (length mem)
+    && eqb (nextByte r mem / 2 ^ 4) 0xF
+    && not (isBuilt (withNibble (nextByte r mem) (getD r oreg 0)))
+
 -- 10 Outside, of take and give: the byte at the pointer of a moving link
 abbrev pub pointerOutside : ℕ → List ℕ → List ℕ → Bool
 pointerOutside c r mem = isMoving c r && leb (length mem) (index (getD r (pointerReg c) 0))
+
+-- 10 Outside and 11 Stop, of step: what it does where it is not halted, (a), (b) or (c), makes its accesses in 000's order; the first one outside
+-- memory makes its answer 10, the first Stop 11, and nothing is accessed after it (crates/rules/specs/Work.antt)
+abbrev pub ownAnswer : List ℕ → List ℕ → ℕ
+ownAnswer r mem = steps.choose mem (begin r) .answer
+
+abbrev pub stepOutside : List ℕ → List ℕ → Bool
+stepOutside r mem = eqb (ownAnswer r mem) 10
+
+abbrev pub stepStops : List ℕ → List ℕ → Bool
+stepStops r mem = eqb (ownAnswer r mem) 11
 
 -- 12 JournalFull: the record of the worked-out call does not fit after used
 abbrev pub full : Machine → List ℕ → List ℕ → Work → Bool
@@ -100,17 +135,15 @@ module _ (m : Machine) (mem j : List ℕ) where
       ∷ (4, pairOutside m mem j)
       ∷ []
 
-  -- the answer of what a step does where it is neither halted nor idle: 9, 10 or 11 by its accesses in 000's order, else 0
-  abbrev pub ownAnswer : ℕ
-  ownAnswer = steps.choose mem (begin (m .regs)) .answer
-
   abbrev pub stepNumbers : List (ℕ × Bool)
   stepNumbers =
       (1, sizeBad mem j)
       ∷ (4, frame m j)
       ∷ (6, isHalted (m .regs))
       ∷ (7, isIdle (m .regs))
-      ∷ (ownAnswer, not (eqb ownAnswer 0))
+      ∷ (9, isUnlisted (m .regs) mem)
+      ∷ (10, stepOutside (m .regs) mem)
+      ∷ (11, stepStops (m .regs) mem)
       ∷ (12, full m mem j (steps.step mem (begin (m .regs))))
       ∷ []
 

@@ -28,7 +28,7 @@ use Rattle.theorems.proofs.Exactly.{fresh-exactly, step-exactly, tick-e
 use Rattle.theorems.proofs.History.{public-history, public-undone}
 
 -- of one call: some result meets its contract, and no second one; it refuses exactly by its table, and cleanly (m is the machine before it)
-pub record Demands12 (C : Contract) (numbers : List ℕ → List ℕ → List (ℕ × Bool)) (m : Machine) : Type 0 where
+pub record TotalAndExact (C : Contract) (numbers : List ℕ → List ℕ → List (ℕ × Bool)) (m : Machine) : Type 0 where
   pub total : Total C
   pub refuses-cleanly : RefusesCleanly m C
   pub one-answer : OneAnswer C
@@ -36,30 +36,30 @@ pub record Demands12 (C : Contract) (numbers : List ℕ → List ℕ → List (�
 
 -- ---- demands 1 and 2, of the eight
 
-pub fresh-demands : (code : List ℕ) → Demands12 (FreshContract code) (freshNumbers code) noMachine
+pub fresh-demands : (code : List ℕ) → TotalAndExact (FreshContract code) (freshNumbers code) noMachine
 fresh-demands code = record { total = fresh-total code; refuses-cleanly = fresh-refused code; one-answer = fresh-unique code; answers-exactly = fresh-exactly code }
 
 -- a machine has 45 registers, of any value; depth and used are any numbers
 module _ (m : Machine) (h : length (m .regs) ≡ registers) where
-  pub step-demands : Demands12 (StepContract m) (stepNumbers m) m
-  step-demands = record { total = step-total m h; refuses-cleanly = step-refused m; one-answer = step-unique m; answers-exactly = step-exactly m }
+  pub step-demands : TotalAndExact (StepContract m) (stepNumbers m) m
+  step-demands = record { total = step-total m h; refuses-cleanly = step-refused m; one-answer = step-unique m; answers-exactly = step-exactly m h }
 
-  pub tick-demands : Demands12 (TickContract m) (tickNumbers m) m
+  pub tick-demands : TotalAndExact (TickContract m) (tickNumbers m) m
   tick-demands = record { total = tick-total m h; refuses-cleanly = tick-refused m; one-answer = tick-unique m; answers-exactly = tick-exactly m }
 
-  pub take-demands : (channel : ℕ) → Demands12 (TakeContract channel m) (takeNumbers channel m) m
+  pub take-demands : (channel : ℕ) → TotalAndExact (TakeContract channel m) (takeNumbers channel m) m
   take-demands channel = record { total = take-total m h channel; refuses-cleanly = take-refused m channel; one-answer = take-unique m channel; answers-exactly = take-exactly m channel }
 
-  pub give-demands : (channel byte : ℕ) → Demands12 (GiveContract channel byte m) (giveNumbers channel byte m) m
+  pub give-demands : (channel byte : ℕ) → TotalAndExact (GiveContract channel byte m) (giveNumbers channel byte m) m
   give-demands channel byte = record { total = give-total m h channel byte; refuses-cleanly = give-refused m channel byte; one-answer = give-unique m channel byte; answers-exactly = give-exactly m channel byte }
 
-  pub event-demands : Demands12 (EventContract m) (eventNumbers m) m
+  pub event-demands : TotalAndExact (EventContract m) (eventNumbers m) m
   event-demands = record { total = event-total m h; refuses-cleanly = event-refused m; one-answer = event-unique m; answers-exactly = event-exactly m }
 
-  pub undo-demands : Demands12 (UndoContract m) (undoNumbers m) m
+  pub undo-demands : TotalAndExact (UndoContract m) (undoNumbers m) m
   undo-demands = record { total = undo-total m h; refuses-cleanly = undo-refused m; one-answer = undo-unique m; answers-exactly = undo-exactly m }
 
-  pub clear-demands : Demands12 (ClearContract m) (clearNumbers m) m
+  pub clear-demands : TotalAndExact (ClearContract m) (clearNumbers m) m
   clear-demands = record { total = clear-total m h; refuses-cleanly = clear-refused m; one-answer = clear-unique m; answers-exactly = clear-exactly m }
 
 -- ---- demand 3

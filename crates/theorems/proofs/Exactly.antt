@@ -5,7 +5,9 @@ use mathlib.Core.Logic.{_↔_}
 use mathlib.Core.Bool.{Bool, true, false}
 use mathlib.Core.List.{List, [], _∷_}
 use Prim.Native.Nat.{ℕ}
+use lib.ListN.{length}
 use Rattle.rules.specs.Tests.{pick}
+use Rattle.rules.specs.Registers.{registers}
 use Rattle.rules.specs.Calls.{Outcome, outcomeOf}
 use Rattle.rules.specs.Calls as rules
 use Rattle.rules.specs.declared.Machine.{Machine}
@@ -40,10 +42,11 @@ exactly es o r mem j e first n =
 pub fresh-exactly : (code : List ℕ) → AnswersExactly (freshNumbers code) (FreshContract code)
 fresh-exactly code mem j r mem′ j′ e n = exactly (freshNumbers code mem j) _ r mem′ j′ e (rules-are.fresh-exactly rules.noMachine mem j code) n
 
-module _ (m : Machine) where
-  pub step-exactly : AnswersExactly (stepNumbers m) (StepContract m)
-  step-exactly mem j r mem′ j′ e n = exactly (stepNumbers m mem j) _ r mem′ j′ e (rules-are.step-exactly m mem j) n
+-- of a machine of 45 registers
+pub step-exactly : (m : Machine) → length (m .regs) ≡ registers → AnswersExactly (stepNumbers m) (StepContract m)
+step-exactly m h mem j r mem′ j′ e n = exactly (stepNumbers m mem j) _ r mem′ j′ e (rules-are.step-exactly m mem j h) n
 
+module _ (m : Machine) where
   pub tick-exactly : AnswersExactly (tickNumbers m) (TickContract m)
   tick-exactly mem j r mem′ j′ e n = exactly (tickNumbers m mem j) _ r mem′ j′ e (rules-are.tick-exactly m mem j) n
 

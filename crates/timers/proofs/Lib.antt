@@ -1,1 +1,2 @@
+pub mod Examples
 pub mod Turns

@@ -1,6 +1,6 @@
 -- Masks, proved once for every bit number. Assumes nothing.
-use mathlib.Core.Path.{_≡_, refl, sym, ap, _∙_}
-use Prim.Native.Nat.{ℕ, suc, _+_, _-_, _*_, _/_, _%_, _^_, _≤_, _<_}
+use mathlib.Core.Path.{_≡_, sym, ap, _∙_}
+use Prim.Native.Nat.{ℕ, _+_, _-_, _*_, _/_, _%_, _^_, _≤_, _<_}
 use native.Mathlib.Omega.{arith}
 use native.Mathlib.Nat.{mod-lt, mod-eq-of-lt, le-add-left, lt-of-lt-of-le, one-mul}
 use lib.Pow.{pow-pos, pow-mono, pow-add, split, mod-mod-pow, ones-lt, pow-lt, mod-pow-add, shr-mod, high-ones}

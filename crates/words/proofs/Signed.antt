@@ -1,15 +1,15 @@
 -- What the definitions say over the whole numbers, in natural numbers. Assumes nothing.
 use mathlib.Core.Path.{_≡_, refl, sym, ap, _∙_}
-use mathlib.Core.Bool.{Bool, true, false}
+use mathlib.Core.Bool.{true, false}
 use Prim.Native.Nat.{ℕ, zero, suc, _+_, _-_, _*_, _/_, _%_, _^_, _≤_, _<_}
 use native.Mathlib.Omega.{arith}
 use lib.Dec.{ltb, leb}
 use lib.IntN.{ℤ, pos, negsuc, subℕ, negℤ, natAbs, _+ℤ_, _-ℤ_, _*ℤ_}
 use lib.Signed.{ltZ, leZ, quotZ, remZ}
-use borrow.Author.Tests.{ltb-true, ltb-false, lt-ltb, le-ltb, le-leb, lt-leb}
-use Rattle.rules.specs.Tests.{pick, ifLt}
+use borrow.Author.Tests.{lt-ltb, le-ltb, le-leb, lt-leb}
+use Rattle.rules.specs.Tests.{pick}
 use Rattle.rules.specs.Words.{sign, restoreToRange, overflows, positive, later, maxInt, minInt}
-use Rattle.rules.proofs.Tests.{yes-lt, no-lt, cases-lt, by-bool}
+use Rattle.rules.proofs.Tests.{yes-lt, no-lt, cases-lt}
 use Rattle.words.specs.Net.{net, bias, magnitude}
 
 -- ---- the two forms of a net number
@@ -191,7 +191,7 @@ in-range p m g h =
 
 pub plus-sign : {x : ℕ} → x < 2 ^ 31 → sign x ≡ pos (magnitude x)
 unfolding sign magnitude
-plus-sign h = rw (yes-lt h, yes-lt h)
+plus-sign h = rw (yes-lt {A = ℤ} h, yes-lt {A = ℕ} h)
 
 pub minus-sign : {x : ℕ} → 2 ^ 31 ≤ x → sign x ≡ negsuc (2 ^ 32 - 1 - x)
 unfolding sign

@@ -56,7 +56,8 @@ impl Program {
         Ok(Program { path, rattle })
     }
 
-    fn command(&self) -> Result<Command, String> {
+    /// How the program is started.
+    pub fn command(&self) -> Result<Command, String> {
         if self.rattle {
             rattle_command(&self.path)
         } else {

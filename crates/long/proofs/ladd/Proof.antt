@@ -3,49 +3,34 @@ use Rattle.words.proofs.Signed.{sign-add}
 use borrow.Author.Needs.{needs}
 use Rattle.long.proofs.ladd.Statement.{statement}
 use Rattle.long.proofs.ladd.Tie as tie
-use Rattle.long.proofs.ladd.Reads as reads
-use Rattle.long.proofs.ladd.Lts as lts
-use Rattle.long.proofs.carry_in.Reads as carry-in-reads
-use Rattle.stack.proofs.signed.biased.Reads as biased-reads
-use Rattle.stack.proofs.signed.overflow_check.Reads as overflow-check-reads
 
--- src/lib.rt:80:9
 biased-requires : tie.Need-biased-requires
 biased-requires c κs = search needs
 
--- src/lib.rt:80:9
 cast-overflow-check : tie.Need-cast-overflow-check
 cast-overflow-check c = search needs
 
--- src/lib.rt:80:30
 biased-requires-2 : tie.Need-biased-requires-2
 biased-requires-2 c κs = search needs
 
--- src/lib.rt:80:30
 cast-overflow-check-2 : tie.Need-cast-overflow-check-2
 cast-overflow-check-2 c = search needs
 
--- src/lib.rt:80:9
 add-overflow-check : tie.Need-add-overflow-check
 add-overflow-check c = search needs
 
--- src/lib.rt:80:51
 carry-in-requires : tie.Need-carry-in-requires
 carry-in-requires c κs = search needs
 
--- src/lib.rt:80:51
 cast-overflow-check-3 : tie.Need-cast-overflow-check-3
 cast-overflow-check-3 c = search needs
 
--- src/lib.rt:80:9
 add-overflow-check-2 : tie.Need-add-overflow-check-2
 add-overflow-check-2 c = search needs
 
--- src/lib.rt:79:5
 overflow-check-requires : tie.Need-overflow-check-requires
 overflow-check-requires c κs = search needs
 
--- src/lib.rt:76:1
 returns : tie.Need-returns
 returns c =
     let s = c .before .before .before .before .args .s in

@@ -1,67 +1,49 @@
 use Rattle.rules.specs.Stack.{ldiff, carryIn}
-use Rattle.rules.proofs.Tests.{yes-lt, no-lt, yes-le, no-le, yes-eq, no-eq}
+use Rattle.rules.proofs.Tests.{yes-lt, no-lt}
 use Rattle.long.proofs.Naturals.{natural-difference}
 use borrow.Author.Needs.{needs}
 use Rattle.long.proofs.ldiff.Statement.{statement}
 use Rattle.long.proofs.ldiff.Tie as tie
-use Rattle.long.proofs.ldiff.Reads as reads
-use Rattle.long.proofs.ldiff.Lts as lts
-use Rattle.long.proofs.carry_in.Reads as carry-in-reads
-use Rattle.long.proofs.split.Reads as split-reads
-use Rattle.stack.proofs.signed.word_of.Reads as word-of-reads
 
--- src/lib.rt:110:13
 cast-m : tie.Need-cast-m
 cast-m c = search needs
 
--- src/lib.rt:110:26
 carry-in-requires : tie.Need-carry-in-requires
 carry-in-requires c κs = search needs
 
--- src/lib.rt:110:26
 cast-m-2 : tie.Need-cast-m-2
 cast-m-2 c = search needs
 
--- src/lib.rt:110:13
 add-m : tie.Need-add-m
 add-m c = search needs
 
--- src/lib.rt:111:9
 cast-if1 : tie.Need-cast-if1
 cast-if1 c = search needs
 
--- src/lib.rt:112:30
 cast-word-of : tie.Need-cast-word-of
 cast-word-of c = search needs
 
--- src/lib.rt:112:22
 word-of-requires : tie.Need-word-of-requires
 word-of-requires c κs = search needs
 
--- src/lib.rt:112:9
 split-requires : tie.Need-split-requires
 split-requires c κs = search needs
 
--- src/lib.rt:112:9
 returns : tie.Need-returns
 unfolding ldiff
 returns c =
     let s = c .before .before .before .before .before .before .before .args .s in
     rw (natural-difference (s .b) (s .a) (carryIn s), ← c .before .before .before .before .before .carry-in .ensures, yes-lt (c .before .before .before .if1 .taken), ← c .before .word-of .ensures) (c .split .ensures)
 
--- src/lib.rt:114:19
 cast-word-of-2 : tie.Need-cast-word-of-2
 cast-word-of-2 c = search needs
 
--- src/lib.rt:114:11
 word-of-requires-2 : tie.Need-word-of-requires-2
 word-of-requires-2 c κs = search needs
 
--- src/lib.rt:114:5
 split-requires-2 : tie.Need-split-requires-2
 split-requires-2 c κs = search needs
 
--- src/lib.rt:107:1
 returns-2 : tie.Need-returns-2
 unfolding ldiff
 returns-2 c =

@@ -3,49 +3,35 @@ use Rattle.long.proofs.Naturals.{product-fits}
 use borrow.Author.Needs.{needs}
 use Rattle.long.proofs.lmul.Statement.{statement}
 use Rattle.long.proofs.lmul.Tie as tie
-use Rattle.long.proofs.lmul.Reads as reads
-use Rattle.long.proofs.lmul.Lts as lts
-use Rattle.long.proofs.high_word.Reads as high-word-reads
-use Rattle.long.proofs.low_word.Reads as low-word-reads
-use Rattle.long.proofs.split.Reads as split-reads
 
--- src/lib.rt:120:13
 cast-v : tie.Need-cast-v
 cast-v c = search needs
 
--- src/lib.rt:120:26
 cast-v-2 : tie.Need-cast-v-2
 cast-v-2 c = search needs
 
--- src/lib.rt:120:13
 mul-v : tie.Need-mul-v
 mul-v c =
     let s = c .before .before .args .s in
     omega (arith, product-fits (s .b) (s .a) 0 (search needs) (search needs) (omega arith))
 
--- src/lib.rt:120:39
 cast-v-3 : tie.Need-cast-v-3
 cast-v-3 c = search needs
 
--- src/lib.rt:120:13
 add-v : tie.Need-add-v
 add-v c =
     let s = c .before .before .before .args .s in
     omega (arith, product-fits (s .b) (s .a) (s .c) (search needs) (search needs) (search needs))
 
--- src/lib.rt:121:11
 low-word-requires : tie.Need-low-word-requires
 low-word-requires c κs = search needs
 
--- src/lib.rt:121:24
 high-word-requires : tie.Need-high-word-requires
 high-word-requires c κs = search needs
 
--- src/lib.rt:121:5
 split-requires : tie.Need-split-requires
 split-requires c κs = search needs
 
--- src/lib.rt:117:1
 returns : tie.Need-returns
 returns c = rw (c .split .ensures, c .before .high-word .ensures, c .before .before .low-word .ensures)
 

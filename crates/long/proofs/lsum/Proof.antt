@@ -1,49 +1,35 @@
 use native.Mathlib.Omega.{arith}
 use Prim.Native.Nat.{_+_, _^_}
 use Rattle.rules.specs.Stack.{lsum}
-use Rattle.rules.proofs.Tests.{yes-lt, no-lt, yes-le, no-le, yes-eq, no-eq}
+use Rattle.rules.proofs.Tests.{yes-lt, no-lt}
 use borrow.Author.Needs.{needs}
 use Rattle.long.proofs.lsum.Statement.{statement}
 use Rattle.long.proofs.lsum.Tie as tie
-use Rattle.long.proofs.lsum.Reads as reads
-use Rattle.long.proofs.lsum.Lts as lts
-use Rattle.long.proofs.carry_in.Reads as carry-in-reads
-use Rattle.long.proofs.low_word.Reads as low-word-reads
-use Rattle.long.proofs.split.Reads as split-reads
 
--- src/lib.rt:100:13
 cast-v : tie.Need-cast-v
 cast-v c = search needs
 
--- src/lib.rt:100:26
 cast-v-2 : tie.Need-cast-v-2
 cast-v-2 c = search needs
 
--- src/lib.rt:100:13
 add-v : tie.Need-add-v
 add-v c = search needs
 
--- src/lib.rt:100:39
 carry-in-requires : tie.Need-carry-in-requires
 carry-in-requires c κs = search needs
 
--- src/lib.rt:100:39
 cast-v-3 : tie.Need-cast-v-3
 cast-v-3 c = search needs
 
--- src/lib.rt:100:13
 add-v-2 : tie.Need-add-v-2
 add-v-2 c = search needs
 
--- src/lib.rt:102:22
 low-word-requires : tie.Need-low-word-requires
 low-word-requires c κs = search needs
 
--- src/lib.rt:102:9
 split-requires : tie.Need-split-requires
 split-requires c κs = search needs
 
--- src/lib.rt:102:9
 returns : tie.Need-returns
 unfolding lsum
 returns c =
@@ -51,15 +37,12 @@ returns c =
     let k = c .before .before .before .carry-in .result in
     rw (← c .before .before .before .carry-in .ensures, yes-lt {a = 2 ^ 32} {b = s .b + s .a + k} (omega arith), ← c .before .low-word .ensures) (c .split .ensures)
 
--- src/lib.rt:104:11
 low-word-requires-2 : tie.Need-low-word-requires-2
 low-word-requires-2 c κs = search needs
 
--- src/lib.rt:104:5
 split-requires-2 : tie.Need-split-requires-2
 split-requires-2 c κs = search needs
 
--- src/lib.rt:97:1
 returns-2 : tie.Need-returns-2
 unfolding lsum
 returns-2 c =

@@ -2,19 +2,13 @@ use lib.Pow.{pow-add}
 use lib.Count.{leadingZeros}
 use native.Mathlib.Omega.{arith}
 use mathlib.Core.Path.{_≡_, sym, _∙_}
-use Prim.Native.Nat.{_+_, _-_, _*_, _^_, _≤_, _<_}
+use Prim.Native.Nat.{_-_, _*_, _^_, _≤_, _<_}
 use borrow.Author.Needs.{needs}
-use Rattle.rules.proofs.Tests.{yes-lt, no-lt, yes-le, no-le, yes-eq, no-eq}
+use Rattle.rules.proofs.Tests.{yes-eq, no-eq}
 use Rattle.rules.specs.Stack.{norm}
 use Rattle.long.proofs.Normal.{pow-lt-cancel, shift-is}
 use Rattle.long.proofs.norm.Statement.{statement}
 use Rattle.long.proofs.norm.Tie as tie
-use Rattle.long.proofs.norm.Reads as reads
-use Rattle.long.proofs.norm.Lts as lts
-use Rattle.long.proofs.double.Reads as double-reads
-use Rattle.long.proofs.high_word.Reads as high-word-reads
-use Rattle.long.proofs.low_word.Reads as low-word-reads
-use Rattle.long.proofs.split.Reads as split-reads
 
 abbrev Inv-loop : tie.InvT-loop
 Inv-loop v₀ t n₀ v n = (v ≡ v₀ * 2 ^ n) × (0 < v) × (2 ^ n ≤ v) × (v < 2 ^ 64)
@@ -22,50 +16,39 @@ Inv-loop v₀ t n₀ v n = (v ≡ v₀ * 2 ^ n) × (0 < v) × (2 ^ n ≤ v) × (
 abbrev μ-loop : tie.MeasureT-loop
 μ-loop v₀ t n₀ v n = 2 ^ 63 - v
 
--- src/lib.rt:138:9
 double-requires : tie.Need-double-requires Inv-loop μ-loop
 double-requires c κs = search needs
 
--- src/lib.rt:142:9
 returns : tie.Need-returns Inv-loop μ-loop
 unfolding norm
 returns c = rw (yes-eq (sym (c .before .double .ensures) ∙ c .if1 .taken))
 
--- src/lib.rt:145:5
 loop-holds : tie.Need-loop-holds Inv-loop μ-loop
 loop-holds c = omega arith
 
--- src/lib.rt:146:13
 mul-v : tie.Need-mul-v Inv-loop μ-loop
 mul-v c = omega arith
 
--- src/lib.rt:147:9
 add-n : tie.Need-add-n Inv-loop μ-loop
 add-n c =
     let h : 2 ^ (c .before .loop .n) < 2 ^ 63 = omega arith in
     omega (arith, pow-lt-cancel {a = c .before .loop .n} {b = 63} h)
 
--- src/lib.rt:145:5
 loop-less : tie.Need-loop-less Inv-loop μ-loop
 loop-less c = omega arith
 
--- src/lib.rt:145:5
 loop-again : tie.Need-loop-again Inv-loop μ-loop
 loop-again c = rw (pow-add 2 (c .before .loop .n) 1) (omega arith)
 
--- src/lib.rt:150:11
 low-word-requires : tie.Need-low-word-requires Inv-loop μ-loop
 low-word-requires c κs = search needs
 
--- src/lib.rt:150:24
 high-word-requires : tie.Need-high-word-requires Inv-loop μ-loop
 high-word-requires c κs = search needs
 
--- src/lib.rt:150:5
 split-requires : tie.Need-split-requires Inv-loop μ-loop
 split-requires c κs = search needs
 
--- src/lib.rt:135:1
 returns-2 : tie.Need-returns-2 Inv-loop μ-loop
 unfolding norm
 returns-2 c =

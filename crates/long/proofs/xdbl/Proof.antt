@@ -2,15 +2,11 @@ use Rattle.rules.specs.Stack.{xdbl}
 use Rattle.words.proofs.Signed.{not-negative, is-negative}
 use Rattle.long.proofs.xdbl.Statement.{statement}
 use Rattle.long.proofs.xdbl.Tie as tie
-use Rattle.long.proofs.xdbl.Reads as reads
-use Rattle.long.proofs.xdbl.Lts as lts
 
--- src/lib.rt:52:9
 returns : tie.Need-returns
 unfolding xdbl
 returns c = rw (not-negative (c .if1 .taken))
 
--- src/lib.rt:45:1
 returns-2 : tie.Need-returns-2
 unfolding xdbl
 returns-2 c = rw (is-negative (c .if1 .left))

@@ -4,10 +4,7 @@ use Prim.Native.Nat.{_/_, _^_}
 use lib.Bits.{and-mask}
 use Rattle.words.proofs.held_byte.Statement.{statement}
 use Rattle.words.proofs.held_byte.Tie as tie
-use Rattle.words.proofs.held_byte.Reads as reads
-use Rattle.words.proofs.held_byte.Lts as lts
 
--- src/lib.rt:90:1
 returns : tie.Need-returns
 returns c = (refl, omega (arith, and-mask (c .args .x / 2 ^ 8) 8))
 

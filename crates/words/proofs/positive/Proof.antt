@@ -2,15 +2,11 @@ use borrow.Author.Tests.{lt-ltb, le-ltb}
 use Rattle.rules.specs.Words.{positive}
 use Rattle.words.proofs.positive.Statement.{statement}
 use Rattle.words.proofs.positive.Tie as tie
-use Rattle.words.proofs.positive.Reads as reads
-use Rattle.words.proofs.positive.Lts as lts
 
--- src/lib.rt:43:1
 returns : tie.Need-returns
 unfolding positive
 returns c = rw (lt-ltb 0 _ (c .if1 .taken))
 
--- src/lib.rt:43:1
 returns-2 : tie.Need-returns-2
 unfolding positive
 returns-2 c = rw (le-ltb 0 _ (c .if1 .left))

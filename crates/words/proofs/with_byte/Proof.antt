@@ -3,70 +3,52 @@ use native.Mathlib.Omega.{arith}
 use borrow.Author.Needs.{needs}
 use Rattle.words.proofs.with_byte.Statement.{statement}
 use Rattle.words.proofs.with_byte.Tie as tie
-use Rattle.words.proofs.with_byte.Reads as reads
-use Rattle.words.proofs.with_byte.Lts as lts
 
--- src/lib.rt:70:14
 mul-result : tie.Need-mul-result
 mul-result c = search needs
 
--- src/lib.rt:70:14
 add-result : tie.Need-add-result
 add-result c = search needs
 
--- src/lib.rt:71:14
 mul-result-2 : tie.Need-mul-result-2
 mul-result-2 c = search needs
 
--- src/lib.rt:71:34
 mul-result-3 : tie.Need-mul-result-3
 mul-result-3 c = search needs
 
--- src/lib.rt:71:14
 add-result-2 : tie.Need-add-result-2
 add-result-2 c = search needs
 
--- src/lib.rt:71:14
 add-result-3 : tie.Need-add-result-3
 add-result-3 c = search needs
 
--- src/lib.rt:72:14
 mul-result-4 : tie.Need-mul-result-4
 mul-result-4 c = search needs
 
--- src/lib.rt:72:40
 mul-result-5 : tie.Need-mul-result-5
 mul-result-5 c = search needs
 
--- src/lib.rt:72:14
 add-result-4 : tie.Need-add-result-4
 add-result-4 c = search needs
 
--- src/lib.rt:72:14
 add-result-5 : tie.Need-add-result-5
 add-result-5 c = search needs
 
--- src/lib.rt:73:14
 mul-result-6 : tie.Need-mul-result-6
 mul-result-6 c = search needs
 
--- src/lib.rt:73:14
 add-result-6 : tie.Need-add-result-6
 add-result-6 c = search needs
 
--- src/lib.rt:65:1
 returns : tie.Need-returns
 returns c = rw (c .match .keys1) (omega arith)
 
--- src/lib.rt:65:1
 returns-2 : tie.Need-returns-2
 returns-2 c = rw (c .match .keys2) (omega arith)
 
--- src/lib.rt:65:1
 returns-3 : tie.Need-returns-3
 returns-3 c = rw (c .match .keys3) (omega arith)
 
--- src/lib.rt:65:1
 returns-4 : tie.Need-returns-4
 returns-4 c =
     let e : c .before .args .j ≡ 3 = omega (arith, c .match .rest .1, c .match .rest .0 .1, c .match .rest .0 .0 .1) in

@@ -2,36 +2,25 @@ use Rattle.words.proofs.Signed.{sign-sum}
 use borrow.Author.Needs.{needs}
 use Rattle.stack.proofs.arith.adc.Statement.{statement}
 use Rattle.stack.proofs.arith.adc.Tie as tie
-use Rattle.stack.proofs.arith.adc.Reads as reads
-use Rattle.stack.proofs.arith.adc.Lts as lts
-use Rattle.stack.proofs.signed.biased.Reads as biased-reads
-use Rattle.stack.proofs.signed.overflow_check.Reads as overflow-check-reads
 
--- src/arith.rt:18:20
 biased-requires : tie.Need-biased-requires
 biased-requires c κs = search needs
 
--- src/arith.rt:18:20
 cast-overflow-check : tie.Need-cast-overflow-check
 cast-overflow-check c = search needs
 
--- src/arith.rt:18:41
 biased-requires-2 : tie.Need-biased-requires-2
 biased-requires-2 c κs = search needs
 
--- src/arith.rt:18:41
 cast-overflow-check-2 : tie.Need-cast-overflow-check-2
 cast-overflow-check-2 c = search needs
 
--- src/arith.rt:18:20
 add-overflow-check : tie.Need-add-overflow-check
 add-overflow-check c = search needs
 
--- src/arith.rt:18:5
 overflow-check-requires : tie.Need-overflow-check-requires
 overflow-check-requires c κs = search needs
 
--- src/arith.rt:15:1
 returns : tie.Need-returns
 returns c =
     let s = c .before .before .before .args .s in

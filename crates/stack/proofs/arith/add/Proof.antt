@@ -2,36 +2,25 @@ use Rattle.words.proofs.Signed.{sign-sum}
 use borrow.Author.Needs.{needs}
 use Rattle.stack.proofs.arith.add.Statement.{statement}
 use Rattle.stack.proofs.arith.add.Tie as tie
-use Rattle.stack.proofs.arith.add.Reads as reads
-use Rattle.stack.proofs.arith.add.Lts as lts
-use Rattle.stack.proofs.signed.biased.Reads as biased-reads
-use Rattle.stack.proofs.signed.checked.Reads as checked-reads
 
--- src/arith.rt:24:13
 biased-requires : tie.Need-biased-requires
 biased-requires c κs = search needs
 
--- src/arith.rt:24:13
 cast-checked : tie.Need-cast-checked
 cast-checked c = search needs
 
--- src/arith.rt:24:34
 biased-requires-2 : tie.Need-biased-requires-2
 biased-requires-2 c κs = search needs
 
--- src/arith.rt:24:34
 cast-checked-2 : tie.Need-cast-checked-2
 cast-checked-2 c = search needs
 
--- src/arith.rt:24:13
 add-checked : tie.Need-add-checked
 add-checked c = search needs
 
--- src/arith.rt:24:5
 checked-requires : tie.Need-checked-requires
 checked-requires c κs = search needs
 
--- src/arith.rt:21:1
 returns : tie.Need-returns
 returns c =
     let s = c .before .before .before .args .s in

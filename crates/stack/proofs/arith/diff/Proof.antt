@@ -5,20 +5,13 @@ use Rattle.words.proofs.Signed.{restore-sub}
 use borrow.Author.Needs.{needs}
 use Rattle.stack.proofs.arith.diff.Statement.{statement}
 use Rattle.stack.proofs.arith.diff.Tie as tie
-use Rattle.stack.proofs.arith.diff.Reads as reads
-use Rattle.stack.proofs.arith.diff.Lts as lts
-use Rattle.stack.proofs.registers.result.Reads as result-reads
-use Rattle.std.proofs.num.wrapping_sub_u32.Reads as wrapping-sub-u32-reads
 
--- src/arith.rt:97:12
 wrapping-sub-u32-requires : tie.Need-wrapping-sub-u32-requires
 wrapping-sub-u32-requires c κs = search needs
 
--- src/arith.rt:97:5
 result-requires : tie.Need-result-requires
 result-requires c κs = search needs
 
--- src/arith.rt:94:1
 returns : tie.Need-returns
 returns c =
     let s = c .before .before .args .s in

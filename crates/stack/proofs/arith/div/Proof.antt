@@ -3,35 +3,23 @@ use Rattle.rules.specs.Stack.{div}
 use borrow.Author.Needs.{needs}
 use Rattle.stack.proofs.arith.div.Statement.{statement}
 use Rattle.stack.proofs.arith.div.Tie as tie
-use Rattle.stack.proofs.arith.div.Reads as reads
-use Rattle.stack.proofs.arith.div.Lts as lts
-use Rattle.stack.proofs.arith.refused.Reads as refused-reads
-use Rattle.stack.proofs.arith.undivided.Reads as undivided-reads
-use Rattle.stack.proofs.registers.result.Reads as result-reads
-use Rattle.stack.proofs.signed.quotient.Reads as quotient-reads
 
--- src/arith.rt:73:8
 undivided-requires : tie.Need-undivided-requires
 undivided-requires c κs = search needs
 
--- src/arith.rt:74:9
 refused-requires : tie.Need-refused-requires
 refused-requires c κs = search needs
 
--- src/arith.rt:74:9
 returns : tie.Need-returns
 unfolding div
 returns c = rw (← c .before .before .undivided .ensures, c .before .if1 .taken) (c .refused .ensures)
 
--- src/arith.rt:76:12
 quotient-requires : tie.Need-quotient-requires
 quotient-requires c κs = divided (c .before .before .args .s) (c .if1 .left) (c .before .undivided .ensures)
 
--- src/arith.rt:76:5
 result-requires : tie.Need-result-requires
 result-requires c κs = search needs
 
--- src/arith.rt:70:1
 returns-2 : tie.Need-returns-2
 unfolding div
 returns-2 c = rw (← c .before .before .before .undivided .ensures, c .before .before .if1 .left, ← c .before .quotient .ensures) (c .result .ensures)

@@ -4,66 +4,49 @@ use Rattle.stack.proofs.Division.{product-small}
 use borrow.Author.Needs.{needs}
 use Rattle.stack.proofs.arith.mul.Statement.{statement}
 use Rattle.stack.proofs.arith.mul.Tie as tie
-use Rattle.stack.proofs.arith.mul.Reads as reads
-use Rattle.stack.proofs.arith.mul.Lts as lts
-use Rattle.stack.proofs.signed.checked.Reads as checked-reads
-use Rattle.stack.proofs.signed.magnitude.Reads as magnitude-reads
 
--- src/arith.rt:36:13
 magnitude-requires : tie.Need-magnitude-requires
 magnitude-requires c κs = search needs
 
--- src/arith.rt:36:13
 cast-p : tie.Need-cast-p
 cast-p c = search needs
 
--- src/arith.rt:36:37
 magnitude-requires-2 : tie.Need-magnitude-requires-2
 magnitude-requires-2 c κs = search needs
 
--- src/arith.rt:36:37
 cast-p-2 : tie.Need-cast-p-2
 cast-p-2 c = search needs
 
--- src/arith.rt:36:13
 mul-p : tie.Need-mul-p
 mul-p c = omega (arith, product-small (c .before .magnitude .result) (c .magnitude2 .result) (c .before .magnitude .ensures .1) (c .magnitude2 .ensures .1))
 
--- src/arith.rt:39:13
 checked-requires : tie.Need-checked-requires
 checked-requires c κs = omega (arith, product-small (c .before .before .before .before .before .magnitude .result) (c .before .before .before .before .magnitude2 .result) (c .before .before .before .before .before .magnitude .ensures .1) (c .before .before .before .before .magnitude2 .ensures .1))
 
--- src/arith.rt:39:13
 returns : tie.Need-returns
 returns c =
     let s = c .before .before .before .before .before .before .before .args .s in
     rw (mul-plus-plus (s .b) (s .a) (c .before .before .before .if1 .taken) (c .before .if2 .taken), ← c .before .before .before .before .before .before .magnitude .ensures .0, ← c .before .before .before .before .before .magnitude2 .ensures .0) (c .checked .ensures)
 
--- src/arith.rt:41:9
 checked-requires-2 : tie.Need-checked-requires-2
 checked-requires-2 c κs = omega (arith, product-small (c .before .before .before .before .before .magnitude .result) (c .before .before .before .before .magnitude2 .result) (c .before .before .before .before .before .magnitude .ensures .1) (c .before .before .before .before .magnitude2 .ensures .1))
 
--- src/arith.rt:41:9
 returns-2 : tie.Need-returns-2
 returns-2 c =
     let s = c .before .before .before .before .before .before .before .args .s in
     rw (mul-plus-minus (s .b) (s .a) (c .before .before .before .if1 .taken) (search needs) (c .before .if2 .left), ← c .before .before .before .before .before .before .magnitude .ensures .0, ← c .before .before .before .before .before .magnitude2 .ensures .0) (c .checked2 .ensures)
 
--- src/arith.rt:44:9
 checked-requires-3 : tie.Need-checked-requires-3
 checked-requires-3 c κs = omega (arith, product-small (c .before .before .before .before .before .magnitude .result) (c .before .before .before .before .magnitude2 .result) (c .before .before .before .before .before .magnitude .ensures .1) (c .before .before .before .before .magnitude2 .ensures .1))
 
--- src/arith.rt:44:9
 returns-3 : tie.Need-returns-3
 returns-3 c =
     let s = c .before .before .before .before .before .before .before .args .s in
     rw (mul-minus-plus (s .b) (s .a) (search needs) (c .before .before .before .if1 .left) (c .before .if3 .taken), ← c .before .before .before .before .before .before .magnitude .ensures .0, ← c .before .before .before .before .before .magnitude2 .ensures .0) (c .checked3 .ensures)
 
--- src/arith.rt:46:5
 checked-requires-4 : tie.Need-checked-requires-4
 checked-requires-4 c κs = omega (arith, product-small (c .before .before .before .before .before .magnitude .result) (c .before .before .before .before .magnitude2 .result) (c .before .before .before .before .before .magnitude .ensures .1) (c .before .before .before .before .magnitude2 .ensures .1))
 
--- src/arith.rt:33:1
 returns-4 : tie.Need-returns-4
 returns-4 c =
     let s = c .before .before .before .before .before .before .before .args .s in

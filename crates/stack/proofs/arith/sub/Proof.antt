@@ -2,32 +2,22 @@ use Rattle.words.proofs.Signed.{sign-difference}
 use borrow.Author.Needs.{needs}
 use Rattle.stack.proofs.arith.sub.Statement.{statement}
 use Rattle.stack.proofs.arith.sub.Tie as tie
-use Rattle.stack.proofs.arith.sub.Reads as reads
-use Rattle.stack.proofs.arith.sub.Lts as lts
-use Rattle.stack.proofs.signed.biased.Reads as biased-reads
-use Rattle.stack.proofs.signed.checked.Reads as checked-reads
 
--- src/arith.rt:30:13
 biased-requires : tie.Need-biased-requires
 biased-requires c κs = search needs
 
--- src/arith.rt:30:13
 cast-checked : tie.Need-cast-checked
 cast-checked c = search needs
 
--- src/arith.rt:30:33
 biased-requires-2 : tie.Need-biased-requires-2
 biased-requires-2 c κs = search needs
 
--- src/arith.rt:30:33
 cast-checked-2 : tie.Need-cast-checked-2
 cast-checked-2 c = search needs
 
--- src/arith.rt:30:5
 checked-requires : tie.Need-checked-requires
 checked-requires c κs = search needs
 
--- src/arith.rt:27:1
 returns : tie.Need-returns
 returns c =
     let s = c .before .before .before .args .s in

@@ -2,20 +2,15 @@ use borrow.Author.Tests.{eq-eqb, ne-eqb}
 use Rattle.rules.specs.Stack.{undivided}
 use Rattle.stack.proofs.arith.undivided.Statement.{statement}
 use Rattle.stack.proofs.arith.undivided.Tie as tie
-use Rattle.stack.proofs.arith.undivided.Reads as reads
-use Rattle.stack.proofs.arith.undivided.Lts as lts
 
--- src/arith.rt:55:13
 returns : tie.Need-returns
 unfolding undivided
 returns c = rw (eq-eqb _ _ (c .before .before .if1 .taken), eq-eqb _ _ (c .if2 .taken))
 
--- src/arith.rt:57:9
 returns-2 : tie.Need-returns-2
 unfolding undivided
 returns-2 c = rw (eq-eqb _ _ (c .before .before .before .if1 .taken), ne-eqb _ _ (c .before .if2 .left))
 
--- src/arith.rt:50:1
 returns-3 : tie.Need-returns-3
 unfolding undivided
 returns-3 c = rw (ne-eqb _ _ (c .before .if1 .left))

@@ -3,33 +3,23 @@ use Rattle.rules.specs.Stack.{ccnt1}
 use borrow.Author.Needs.{needs}
 use Rattle.stack.proofs.checks.ccnt1.Statement.{statement}
 use Rattle.stack.proofs.checks.ccnt1.Tie as tie
-use Rattle.stack.proofs.checks.ccnt1.Reads as reads
-use Rattle.stack.proofs.checks.ccnt1.Lts as lts
-use Rattle.stack.proofs.checks.error_if.Reads as error-if-reads
-use Rattle.stack.proofs.registers.pop.Reads as pop-reads
 
--- src/checks.rt:43:31
 pop-requires : tie.Need-pop-requires
 pop-requires c κs = search needs
 
--- src/checks.rt:43:9
 error-if-requires : tie.Need-error-if-requires
 error-if-requires c κs = search needs
 
--- src/checks.rt:43:9
 returns : tie.Need-returns
 unfolding ccnt1
 returns c = rw (eq-eqb _ 0 (c .before .before .if1 .taken), c .error-if .ensures, c .before .pop .ensures)
 
--- src/checks.rt:45:25
 pop-requires-2 : tie.Need-pop-requires-2
 pop-requires-2 c κs = search needs
 
--- src/checks.rt:45:5
 error-if-requires-2 : tie.Need-error-if-requires-2
 error-if-requires-2 c κs = search needs
 
--- src/checks.rt:39:1
 returns-2 : tie.Need-returns-2
 unfolding ccnt1
 returns-2 c = rw (ne-eqb _ 0 (c .before .before .before .if1 .left), c .error-if2 .ensures, c .before .pop2 .ensures)

@@ -2,20 +2,13 @@ use Rattle.rules.specs.Stack.{csub0}
 use borrow.Author.Needs.{needs}
 use Rattle.stack.proofs.checks.csub0.Statement.{statement}
 use Rattle.stack.proofs.checks.csub0.Tie as tie
-use Rattle.stack.proofs.checks.csub0.Reads as reads
-use Rattle.stack.proofs.checks.csub0.Lts as lts
-use Rattle.stack.proofs.checks.error_if.Reads as error-if-reads
-use Rattle.stack.proofs.registers.pop.Reads as pop-reads
 
--- src/checks.rt:35:26
 pop-requires : tie.Need-pop-requires
 pop-requires c κs = search needs
 
--- src/checks.rt:35:5
 error-if-requires : tie.Need-error-if-requires
 error-if-requires c κs = search needs
 
--- src/checks.rt:32:1
 returns : tie.Need-returns
 unfolding csub0
 returns c = rw (c .error-if .ensures, c .before .pop .ensures)

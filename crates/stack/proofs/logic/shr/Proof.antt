@@ -6,30 +6,20 @@ use Rattle.rules.proofs.Tests.{yes-lt, no-lt}
 use borrow.Author.Needs.{needs}
 use Rattle.stack.proofs.logic.shr.Statement.{statement}
 use Rattle.stack.proofs.logic.shr.Tie as tie
-use Rattle.stack.proofs.logic.shr.Reads as reads
-use Rattle.stack.proofs.logic.shr.Lts as lts
-use Rattle.stack.proofs.logic.goes.Reads as goes-reads
-use Rattle.stack.proofs.logic.halts.Reads as halts-reads
-use Rattle.stack.proofs.registers.result.Reads as result-reads
 
--- src/logic.rt:95:9
 halts-requires : tie.Need-halts-requires
 halts-requires c κs = search needs
 
--- src/logic.rt:95:9
 returns : tie.Need-returns
 unfolding shr
 returns c = rw (yes-lt (c .before .if1 .taken)) (c .halts .ensures)
 
--- src/logic.rt:98:21
 result-requires : tie.Need-result-requires
 result-requires c κs = search needs
 
--- src/logic.rt:98:9
 goes-requires : tie.Need-goes-requires
 goes-requires c κs = search needs
 
--- src/logic.rt:98:9
 returns-2 : tie.Need-returns-2
 unfolding shr
 returns-2 c =
@@ -37,19 +27,15 @@ returns-2 c =
     let e : s .b / 2 ^ s .a ≡ 0 = rw (c .before .before .if2 .taken) (omega arith) in
     rw (no-lt (c .before .before .before .before .if1 .left), e, c .goes .ensures, c .before .result .ensures)
 
--- src/logic.rt:100:17
 shr-result : tie.Need-shr-result
 shr-result c = search needs
 
--- src/logic.rt:100:10
 result-requires-2 : tie.Need-result-requires-2
 result-requires-2 c κs = search needs
 
--- src/logic.rt:100:5
 goes-requires-2 : tie.Need-goes-requires-2
 goes-requires-2 c κs = search needs
 
--- src/logic.rt:91:1
 returns-3 : tie.Need-returns-3
 unfolding shr
 returns-3 c = rw (no-lt (c .before .before .before .before .before .if1 .left), c .goes2 .ensures, c .before .result2 .ensures)

@@ -6,60 +6,43 @@ use Rattle.rules.specs.Stack.{xword}
 use borrow.Author.Needs.{needs}
 use Rattle.stack.proofs.partword.xword.Statement.{statement}
 use Rattle.stack.proofs.partword.xword.Tie as tie
-use Rattle.stack.proofs.partword.xword.Reads as reads
-use Rattle.stack.proofs.partword.xword.Lts as lts
-use Rattle.stack.proofs.registers.result.Reads as result-reads
-use Rattle.stack.proofs.signed.biased.Reads as biased-reads
-use Rattle.stack.proofs.signed.word_of.Reads as word-of-reads
 
--- src/partword.rt:14:13
 biased-requires : tie.Need-biased-requires
 biased-requires c κs = search needs
 
--- src/partword.rt:14:13
 cast-v : tie.Need-cast-v
 cast-v c = search needs
 
--- src/partword.rt:15:12
 cast-if1 : tie.Need-cast-if1
 cast-if1 c = search needs
 
--- src/partword.rt:15:12
 add-if1 : tie.Need-add-if1
 add-if1 c = search needs
 
--- src/partword.rt:16:9
 result-requires : tie.Need-result-requires
 result-requires c κs = search needs
 
--- src/partword.rt:16:9
 returns : tie.Need-returns
 unfolding xword
 returns c =
     let s = c .before .before .before .before .args .s in
     rw (sign-below (s .b) (s .a) (search needs), ← c .before .before .before .biased .ensures, lt-ltb _ _ (c .before .if1 .taken)) (c .result .ensures)
 
--- src/partword.rt:18:41
 cast-word-of : tie.Need-cast-word-of
 cast-word-of c = search needs
 
--- src/partword.rt:18:37
 mul-word-of : tie.Need-mul-word-of
 mul-word-of c = search needs
 
--- src/partword.rt:18:23
 add-word-of : tie.Need-add-word-of
 add-word-of c = search needs
 
--- src/partword.rt:18:12
 word-of-requires : tie.Need-word-of-requires
 word-of-requires c κs = search needs
 
--- src/partword.rt:18:5
 result-requires-2 : tie.Need-result-requires-2
 result-requires-2 c κs = search needs
 
--- src/partword.rt:11:1
 returns-2 : tie.Need-returns-2
 unfolding xword
 returns-2 c =

@@ -3,24 +3,17 @@ use Rattle.rules.proofs.Tests.{yes-eq, no-eq}
 use borrow.Author.Needs.{needs}
 use Rattle.stack.proofs.registers.eqc.Statement.{statement}
 use Rattle.stack.proofs.registers.eqc.Tie as tie
-use Rattle.stack.proofs.registers.eqc.Reads as reads
-use Rattle.stack.proofs.registers.eqc.Lts as lts
-use Rattle.stack.proofs.registers.with_a.Reads as with-a-reads
 
--- src/registers.rt:77:24
 with-a-requires : tie.Need-with-a-requires
 with-a-requires c κs = search needs
 
--- src/registers.rt:77:46
 with-a-requires-2 : tie.Need-with-a-requires-2
 with-a-requires-2 c κs = search needs
 
--- src/registers.rt:74:1
 returns : tie.Need-returns
 unfolding eqc
 returns c = rw (yes-eq (c .before .if1 .taken)) (c .with-a .ensures)
 
--- src/registers.rt:74:1
 returns-2 : tie.Need-returns-2
 unfolding eqc
 returns-2 c = rw (no-eq (c .before .if1 .left)) (c .with-a2 .ensures)

@@ -1,15 +1,10 @@
 use borrow.Author.Needs.{needs}
 use Rattle.stack.proofs.registers.move_workspace.Statement.{statement}
 use Rattle.stack.proofs.registers.move_workspace.Tie as tie
-use Rattle.stack.proofs.registers.move_workspace.Reads as reads
-use Rattle.stack.proofs.registers.move_workspace.Lts as lts
-use Rattle.words.proofs.priority_of.Reads as priority-of-reads
 
--- src/registers.rt:52:22
 priority-of-requires : tie.Need-priority-of-requires
 priority-of-requires c κs = search needs
 
--- src/registers.rt:48:1
 returns : tie.Need-returns
 returns c = rw (c .priority-of .ensures .0)
 

@@ -4,19 +4,14 @@ use Rattle.rules.proofs.Tests.{by-lt}
 use borrow.Author.Needs.{needs}
 use Rattle.stack.proofs.signed.magnitude.Statement.{statement}
 use Rattle.stack.proofs.signed.magnitude.Tie as tie
-use Rattle.stack.proofs.signed.magnitude.Reads as reads
-use Rattle.stack.proofs.signed.magnitude.Lts as lts
 
--- src/signed.rt:56:37
 add-result : tie.Need-add-result
 add-result c = search needs
 
--- src/signed.rt:53:1
 returns : tie.Need-returns
 unfolding magnitude
 returns c = (by-lt (omega arith) (omega arith), omega arith)
 
--- src/signed.rt:53:1
 returns-2 : tie.Need-returns-2
 unfolding magnitude
 returns-2 c = (by-lt (omega arith) (omega arith), omega arith)

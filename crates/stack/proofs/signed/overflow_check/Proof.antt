@@ -4,51 +4,37 @@ use Rattle.words.proofs.Signed.{too-low, too-high, in-range}
 use borrow.Author.Needs.{needs}
 use Rattle.stack.proofs.signed.overflow_check.Statement.{statement}
 use Rattle.stack.proofs.signed.overflow_check.Tie as tie
-use Rattle.stack.proofs.signed.overflow_check.Reads as reads
-use Rattle.stack.proofs.signed.overflow_check.Lts as lts
-use Rattle.stack.proofs.checks.set_error_flag.Reads as set-error-flag-reads
-use Rattle.stack.proofs.registers.with_a.Reads as with-a-reads
-use Rattle.stack.proofs.signed.word_of.Reads as word-of-reads
 
--- src/signed.rt:32:20
 word-of-requires : tie.Need-word-of-requires
 word-of-requires c κs = search needs
 
--- src/signed.rt:32:9
 with-a-requires : tie.Need-with-a-requires
 with-a-requires c κs = search needs
 
--- src/signed.rt:33:8
 add-if1 : tie.Need-add-if1
 add-if1 c = search needs
 
--- src/signed.rt:34:9
 set-error-flag-requires : tie.Need-set-error-flag-requires
 set-error-flag-requires c κs = search needs
 
--- src/signed.rt:34:9
 returns : tie.Need-returns
 unfolding overflowCheck
 returns c =
     let a = c .before .before .before .before .args in
     rw (too-low (a .p) (a .m) (omega arith), c .set-error-flag .ensures, c .before .before .with-a .ensures, c .before .before .before .word-of .ensures)
 
--- src/signed.rt:36:12
 add-if2 : tie.Need-add-if2
 add-if2 c = search needs
 
--- src/signed.rt:37:9
 returns-2 : tie.Need-returns-2
 unfolding overflowCheck
 returns-2 c =
     let a = c .before .before .before .before .args in
     rw (in-range (a .p) (a .m) (omega arith) (omega arith), c .before .before .with-a .ensures, c .before .before .before .word-of .ensures)
 
--- src/signed.rt:39:5
 set-error-flag-requires-2 : tie.Need-set-error-flag-requires-2
 set-error-flag-requires-2 c κs = search needs
 
--- src/signed.rt:28:1
 returns-3 : tie.Need-returns-3
 unfolding overflowCheck
 returns-3 c =

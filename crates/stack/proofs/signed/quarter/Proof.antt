@@ -3,15 +3,11 @@ use Rattle.rules.specs.Words.{sign, restoreToRange}
 use Rattle.rules.proofs.Tests.{yes-lt, no-lt}
 use Rattle.stack.proofs.signed.quarter.Statement.{statement}
 use Rattle.stack.proofs.signed.quarter.Tie as tie
-use Rattle.stack.proofs.signed.quarter.Reads as reads
-use Rattle.stack.proofs.signed.quarter.Lts as lts
 
--- src/signed.rt:90:1
 returns : tie.Need-returns
 unfolding sign restoreToRange
 returns c = rw (yes-lt (c .if1 .taken)) (omega arith)
 
--- src/signed.rt:90:1
 returns-2 : tie.Need-returns-2
 unfolding sign restoreToRange
 returns-2 c = rw (no-lt (c .if1 .left)) (omega arith)

@@ -5,23 +5,16 @@ use Rattle.words.proofs.Signed.{net-restore}
 use borrow.Author.Needs.{needs}
 use Rattle.stack.proofs.signed.word_of.Statement.{statement}
 use Rattle.stack.proofs.signed.word_of.Tie as tie
-use Rattle.stack.proofs.signed.word_of.Reads as reads
-use Rattle.stack.proofs.signed.word_of.Lts as lts
-use Rattle.std.proofs.num.wrapping_sub_u32.Reads as wrapping-sub-u32-reads
 
--- src/signed.rt:24:32
 cast-wrapping-sub-u32 : tie.Need-cast-wrapping-sub-u32
 cast-wrapping-sub-u32 c = search needs
 
--- src/signed.rt:24:60
 cast-wrapping-sub-u32-2 : tie.Need-cast-wrapping-sub-u32-2
 cast-wrapping-sub-u32-2 c = search needs
 
--- src/signed.rt:24:5
 wrapping-sub-u32-requires : tie.Need-wrapping-sub-u32-requires
 wrapping-sub-u32-requires c κs = search needs
 
--- src/signed.rt:21:1
 returns : tie.Need-returns
 returns c =
     let r = c .wrapping-sub-u32 .result in

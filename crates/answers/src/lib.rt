@@ -1,0 +1,24 @@
+// The numbers that 01 gives to the answers, for the programs, which write them.
+use rules::Answer;
+ghost use mathlib.Core.Path.{_≡_};
+ghost use Rattle.rules.specs.Calls.{numberOf};
+
+pub fn number_of(a: Answer) -> u32
+    ensures { λ r. ⌜ r ≡ numberOf a ⌝ }
+{
+    match a {
+        Answer::Done => 0,
+        Answer::Size => 1,
+        Answer::CodeSize => 2,
+        Answer::BadChannel => 3,
+        Answer::JournalBad => 4,
+        Answer::NothingToUndo => 5,
+        Answer::Halted => 6,
+        Answer::Idle => 7,
+        Answer::NotReady => 8,
+        Answer::Unlisted => 9,
+        Answer::Outside => 10,
+        Answer::Stop => 11,
+        Answer::JournalFull => 12,
+    }
+}

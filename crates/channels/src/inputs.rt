@@ -1,0 +1,63 @@
+// PROC Input (000 1.10): A is the count, B the channel, C the pointer.
+use crate::hard::hard_input;
+use crate::soft::move_message;
+use crate::soft::soft_wait;
+use names::BREG;
+use names::CREG;
+use names::LINK_CHANS;
+use names::NOT_PROCESS;
+use names::POINTER_S;
+use names::WPTR_MASK;
+use store::Plan;
+use store::load_word;
+use store::put;
+use store::w_index_word;
+use store::word_at;
+use words::at_word;
+use words::index_of;
+ghost use mathlib.Core.Path.{_≡_};
+ghost use Rattle.rules.specs.Channels as rules;
+ghost use Rattle.store.specs.View.{view, Room, Grown, Ended};
+
+// The registers for a message from the partner's pointer.
+fn input_regs(w: Plan, source: u32) -> Plan
+    ensures { λ r. ⌜ (view r ≡ rules.inputRegs source (view w)) × Grown 0 w r ⌝ }
+{
+    put(put(w, BREG, w.regs[CREG]), CREG, source)
+}
+
+fn input_ready(w: Plan, mem: &[u32], descriptor: u32) -> Plan
+    requires { ⌜ Room 7 w × (w .count ≡ 0) ⌝ }
+    ensures { λ r. ⌜ (view r ≡ rules.inputReady (now (mem .entry)) descriptor (view w)) × Ended 7 w r ⌝ }
+{
+    let a = at_word(descriptor & WPTR_MASK, POINTER_S);
+    let source = word_at(w, mem, a);
+    move_message(input_regs(load_word(w, mem, a), source), mem, descriptor)
+}
+
+fn soft_input(w: Plan, mem: &[u32], descriptor: u32) -> Plan
+    requires { ⌜ Room 8 w × (w .count ≡ 0) ⌝ }
+    ensures { λ r. ⌜ (view r ≡ rules.softInput (now (mem .entry)) descriptor (view w)) × Ended 8 w r ⌝ }
+{
+    if descriptor == NOT_PROCESS {
+        return soft_wait(w, mem);
+    }
+    input_ready(
+        w_index_word(w, mem, w.regs[BREG], 0, NOT_PROCESS),
+        mem,
+        descriptor,
+    )
+}
+
+pub fn input(w: Plan, mem: &[u32]) -> Plan
+    requires { ⌜ Room 8 w × (w .count ≡ 0) ⌝ }
+    ensures { λ r. ⌜ (view r ≡ rules.input (now (mem .entry)) (view w)) × Ended 8 w r ⌝ }
+{
+    let number = index_of(w.regs[BREG]);
+    if number < LINK_CHANS {
+        return hard_input(w, mem, number as usize);
+    }
+    let a = at_word(w.regs[BREG], 0);
+    let descriptor = word_at(w, mem, a);
+    soft_input(load_word(w, mem, a), mem, descriptor)
+}

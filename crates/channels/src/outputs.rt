@@ -1,0 +1,124 @@
+// PROC Output (000 1.10): A is the count, B the channel, C the pointer; and the operations that send a word or a byte of the workspace.
+use crate::hard::hard_output;
+use crate::soft::move_message;
+use crate::soft::soft_wait;
+use names::AREG;
+use names::BREG;
+use names::CREG;
+use names::ENABLING;
+use names::LINK_CHANS;
+use names::NOT_PROCESS;
+use names::POINTER_S;
+use names::READY;
+use names::WAITING;
+use names::WDESC_REG;
+use names::WPTR_MASK;
+use schedule::run;
+use store::Plan;
+use store::load_word;
+use store::put;
+use store::w_index_word;
+use store::word_at;
+use words::at_word;
+use words::index_of;
+ghost use mathlib.Core.Path.{_≡_};
+ghost use Rattle.rules.specs.Channels as rules;
+ghost use Rattle.store.specs.View.{view, Room, Grown, Ended};
+
+fn output_message(w: Plan, mem: &[u32], descriptor: u32, target: u32) -> Plan
+    requires { ⌜ Room 8 w × (w .count ≡ 0) ⌝ }
+    ensures { λ r. ⌜ (view r ≡ rules.outputMessage (now (mem .entry)) descriptor target (view w)) × Ended 8 w r ⌝ }
+{
+    let cleared = w_index_word(w, mem, w.regs[BREG], 0, NOT_PROCESS);
+    move_message(put(cleared, BREG, target), mem, descriptor)
+}
+
+// The scheduler's interlock for ALT.
+fn output_enabling(w: Plan, mem: &[u32], descriptor: u32) -> Plan
+    requires { ⌜ Room 4 w ⌝ }
+    ensures { λ r. ⌜ (view r ≡ rules.outputEnabling (now (mem .entry)) descriptor (view w)) × Grown 4 w r ⌝ }
+{
+    soft_wait(
+        w_index_word(w, mem, descriptor & WPTR_MASK, POINTER_S, READY),
+        mem,
+    )
+}
+
+fn output_waiting(w: Plan, mem: &[u32], descriptor: u32) -> Plan
+    requires { ⌜ Room 11 w ⌝ }
+    ensures { λ r. ⌜ (view r ≡ rules.outputWaiting (now (mem .entry)) descriptor (view w)) × Grown 11 w r ⌝ }
+{
+    run(output_enabling(w, mem, descriptor), mem, descriptor)
+}
+
+fn output_to(w: Plan, mem: &[u32], descriptor: u32, target: u32) -> Plan
+    requires { ⌜ Room 11 w × (w .count ≡ 0) ⌝ }
+    ensures { λ r. ⌜ (view r ≡ rules.outputTo (now (mem .entry)) descriptor target (view w)) × Ended 11 w r ⌝ }
+{
+    if target == ENABLING {
+        return output_enabling(w, mem, descriptor);
+    }
+    if target == WAITING {
+        return output_waiting(w, mem, descriptor);
+    }
+    if target == READY {
+        return soft_wait(w, mem);
+    }
+    output_message(w, mem, descriptor, target)
+}
+
+fn output_ready(w: Plan, mem: &[u32], descriptor: u32) -> Plan
+    requires { ⌜ Room 11 w × (w .count ≡ 0) ⌝ }
+    ensures { λ r. ⌜ (view r ≡ rules.outputReady (now (mem .entry)) descriptor (view w)) × Ended 11 w r ⌝ }
+{
+    let a = at_word(descriptor & WPTR_MASK, POINTER_S);
+    let target = word_at(w, mem, a);
+    output_to(load_word(w, mem, a), mem, descriptor, target)
+}
+
+fn soft_output(w: Plan, mem: &[u32], descriptor: u32) -> Plan
+    requires { ⌜ Room 11 w × (w .count ≡ 0) ⌝ }
+    ensures { λ r. ⌜ (view r ≡ rules.softOutput (now (mem .entry)) descriptor (view w)) × Ended 11 w r ⌝ }
+{
+    if descriptor == NOT_PROCESS {
+        return soft_wait(w, mem);
+    }
+    output_ready(w, mem, descriptor)
+}
+
+pub fn output(w: Plan, mem: &[u32]) -> Plan
+    requires { ⌜ Room 11 w × (w .count ≡ 0) ⌝ }
+    ensures { λ r. ⌜ (view r ≡ rules.output (now (mem .entry)) (view w)) × Ended 11 w r ⌝ }
+{
+    let number = index_of(w.regs[BREG]);
+    if number < LINK_CHANS {
+        return hard_output(w, mem, number as usize);
+    }
+    let a = at_word(w.regs[BREG], 0);
+    let descriptor = word_at(w, mem, a);
+    soft_output(load_word(w, mem, a), mem, descriptor)
+}
+
+// A is stored in local 0, and its bytes are sent from there (DECISIONS 42).
+fn output_local(w: Plan, mem: &[u32], count: u32) -> Plan
+    requires { ⌜ Room 12 w × (w .count ≡ 0) ⌝ }
+    ensures { λ r. ⌜ (view r ≡ rules.outputLocal (now (mem .entry)) count (view w)) × Ended 12 w r ⌝ }
+{
+    let wptr = w.regs[WDESC_REG] & WPTR_MASK;
+    let local = w_index_word(w, mem, wptr, 0, w.regs[AREG]);
+    output(put(put(local, AREG, count), CREG, wptr), mem)
+}
+
+pub fn outword(w: Plan, mem: &[u32]) -> Plan
+    requires { ⌜ Room 12 w × (w .count ≡ 0) ⌝ }
+    ensures { λ r. ⌜ (view r ≡ rules.outword (now (mem .entry)) (view w)) × Ended 12 w r ⌝ }
+{
+    output_local(w, mem, 4)
+}
+
+pub fn outbyte(w: Plan, mem: &[u32]) -> Plan
+    requires { ⌜ Room 12 w × (w .count ≡ 0) ⌝ }
+    ensures { λ r. ⌜ (view r ≡ rules.outbyte (now (mem .entry)) (view w)) × Ended 12 w r ⌝ }
+{
+    output_local(w, mem, 1)
+}

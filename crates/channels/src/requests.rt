@@ -1,0 +1,133 @@
+// Requests of channels (01, One step), and PROC HandleChannelRequest (000 1.8).
+use names::CHANNEL_REG;
+use names::ENABLING;
+use names::LINK_CHANS;
+use names::NOT_PROCESS;
+use names::POINTER_S;
+use names::PORT_BASE;
+use names::READY;
+use names::READY_REQUEST;
+use names::RUN_REQUEST;
+use names::STOP;
+use names::WAITING;
+use names::WPTR_MASK;
+use schedule::run;
+use store::Plan;
+use store::load_word;
+use store::lower;
+use store::refuse;
+use store::w_index_word;
+use store::word_at;
+use words::at_word;
+ghost use mathlib.Core.Path.{_≡_};
+ghost use Prim.Native.Nat.{_+_, _<_, _≤_};
+ghost use Rattle.rules.specs.Registers as registers;
+ghost use Rattle.rules.specs.Channels as rules;
+ghost use Rattle.store.specs.View.{view, Room, Grown};
+
+// Of the n channels from c on, the lowest with a run or a ready request; 9 where there is none.
+fn request_from(w: Plan, c: usize, n: usize) -> usize
+    requires { ⌜ c + n ≤ registers.linkChans ⌝ }
+    ensures { λ r. ⌜ r ≡ rules.requestFrom c n (view w) ⌝ }
+{
+    let mut at = c;
+    let mut left = n;
+    while 0 < left {
+        let k = CHANNEL_REG + 3 * at;
+        if w.regs[k] & (RUN_REQUEST + READY_REQUEST) == 0 {
+            at += 1;
+            left -= 1;
+        } else {
+            return at;
+        }
+    }
+    LINK_CHANS as usize
+}
+
+pub fn requested(w: Plan) -> usize
+    ensures { λ r. ⌜ r ≡ rules.requested (view w) ⌝ }
+{
+    request_from(w, 0, LINK_CHANS as usize)
+}
+
+// After a reset there is no process to run.
+fn run_content(w: Plan, mem: &[u32], hc: usize, content: u32) -> Plan
+    requires { ⌜ (hc < registers.linkChans) × Room 8 w ⌝ }
+    ensures { λ r. ⌜ (view r ≡ rules.runContent (now (mem .entry)) hc content (view w)) × Grown 8 w r ⌝ }
+{
+    if content == NOT_PROCESS {
+        return w;
+    }
+    run(
+        w_index_word(w, mem, PORT_BASE, hc as u32, NOT_PROCESS),
+        mem,
+        content,
+    )
+}
+
+fn handle_run_request(w: Plan, mem: &[u32], hc: usize) -> Plan
+    requires { ⌜ (hc < registers.linkChans) × Room 8 w ⌝ }
+    ensures { λ r. ⌜ (view r ≡ rules.handleRunRequest (now (mem .entry)) hc (view w)) × Grown 8 w r ⌝ }
+{
+    let a = at_word(PORT_BASE, hc as u32);
+    let content = word_at(w, mem, a);
+    run_content(load_word(w, mem, a), mem, hc, content)
+}
+
+fn ready_waiting(w: Plan, mem: &[u32], content: u32) -> Plan
+    requires { ⌜ Room 8 w ⌝ }
+    ensures { λ r. ⌜ (view r ≡ rules.readyWaiting (now (mem .entry)) content (view w)) × Grown 8 w r ⌝ }
+{
+    run(
+        w_index_word(w, mem, content & WPTR_MASK, POINTER_S, READY),
+        mem,
+        content,
+    )
+}
+
+// An IF of 000 with three branches: any other status is a Stop.
+fn ready_status(w: Plan, mem: &[u32], content: u32, status: u32) -> Plan
+    requires { ⌜ Room 8 w ⌝ }
+    ensures { λ r. ⌜ (view r ≡ rules.readyStatus (now (mem .entry)) content status (view w)) × Grown 8 w r ⌝ }
+{
+    if status == ENABLING {
+        return w_index_word(w, mem, content & WPTR_MASK, POINTER_S, READY);
+    }
+    if status == READY {
+        return w;
+    }
+    if status == WAITING {
+        return ready_waiting(w, mem, content);
+    }
+    refuse(w, STOP)
+}
+
+fn ready_content(w: Plan, mem: &[u32], content: u32) -> Plan
+    requires { ⌜ Room 8 w ⌝ }
+    ensures { λ r. ⌜ (view r ≡ rules.readyContent (now (mem .entry)) content (view w)) × Grown 8 w r ⌝ }
+{
+    let a = at_word(content & WPTR_MASK, POINTER_S);
+    let status = word_at(w, mem, a);
+    ready_status(load_word(w, mem, a), mem, content, status)
+}
+
+fn handle_ready_request(w: Plan, mem: &[u32], hc: usize) -> Plan
+    requires { ⌜ (hc < registers.linkChans) × Room 8 w ⌝ }
+    ensures { λ r. ⌜ (view r ≡ rules.handleReadyRequest (now (mem .entry)) hc (view w)) × Grown 8 w r ⌝ }
+{
+    let a = at_word(PORT_BASE, hc as u32);
+    let content = word_at(w, mem, a);
+    ready_content(load_word(w, mem, a), mem, content)
+}
+
+// The run request is served before the ready request, and that bit is cleared.
+pub fn handle_channel_request(w: Plan, mem: &[u32], hc: usize) -> Plan
+    requires { ⌜ (hc < registers.linkChans) × Room 8 w ⌝ }
+    ensures { λ r. ⌜ (view r ≡ rules.handleChannelRequest (now (mem .entry)) hc (view w)) × Grown 8 w r ⌝ }
+{
+    let k = CHANNEL_REG + 3 * hc;
+    if w.regs[k] & RUN_REQUEST == 0 {
+        return handle_ready_request(lower(w, k, READY_REQUEST), mem, hc);
+    }
+    handle_run_request(lower(w, k, RUN_REQUEST), mem, hc)
+}

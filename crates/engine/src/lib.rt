@@ -1,0 +1,142 @@
+// One step as a plan over registers and memory (01, One step): refusals 6, 7 and 9 to 11. No journal; nothing is written.
+pub mod dispatch;
+
+use names::ERROR_FLAG;
+use names::FLAGS_REG;
+use names::HALT_ON_ERROR_BIT;
+use names::HALTED;
+use names::HALTED_FLAG;
+use names::IDLE;
+use names::IDLE_FLAG;
+use names::IPTR_REG;
+use names::OREG;
+use names::STATUS_REG;
+use rules::REGISTERS;
+use store::Plan;
+ghost use mathlib.Core.Path.{_≡_};
+ghost use Prim.Native.Nat.{_+_, _<_, _≤_};
+ghost use Rattle.rules.specs.Work.{begin};
+ghost use Rattle.rules.specs.Step as rules;
+ghost use Rattle.store.specs.View.{view, Room, Grown, Ended};
+
+// The machine halts where HaltOnError is set.
+fn halt_if_asked(w: Plan) -> Plan
+    ensures { λ r. ⌜ (view r ≡ rules.haltIfAsked (view w)) × Grown 0 w r ⌝ }
+{
+    if w.regs[STATUS_REG] & HALT_ON_ERROR_BIT == 0 {
+        return w;
+    }
+    store::raise(w, FLAGS_REG, HALTED_FLAG)
+}
+
+// Only an error flag that the step has set halts; before is Status before the step.
+fn halt_on_error(w: Plan, before: u32) -> Plan
+    ensures { λ r. ⌜ (view r ≡ rules.haltOnError before (view w)) × Grown 0 w r ⌝ }
+{
+    if before & ERROR_FLAG == 0 {
+        if w.regs[STATUS_REG] & ERROR_FLAG == 0 {
+            return w;
+        }
+        return halt_if_asked(w);
+    }
+    w
+}
+
+// Iptr grows by one, and Oreg takes the nibble in.
+fn fetched(w: Plan, byte: u32) -> Plan
+    ensures { λ r. ⌜ (view r ≡ rules.fetched byte (view w)) × Grown 0 w r ⌝ }
+{
+    let o = words::with_nibble(byte, w.regs[OREG]);
+    store::put(
+        store::put(w, IPTR_REG, words::at_byte(w.regs[IPTR_REG], 1)),
+        OREG,
+        o,
+    )
+}
+
+// Any function but a prefix.
+fn execute(w: Plan, mem: &[u32], code: u32) -> Plan
+    requires { ⌜ Room 12 w × (w .count ≡ 0) ⌝ }
+    ensures { λ r. ⌜ (view r ≡ rules.execute (now (mem .entry)) code (view w)) × Ended 12 w r ⌝ }
+{
+    schedule::act_on_snp(store::put(dispatch::function(w, mem, code), OREG, 0), mem)
+}
+
+fn decode(w: Plan, mem: &[u32], code: u32) -> Plan
+    requires { ⌜ Room 12 w × (w .count ≡ 0) ⌝ }
+    ensures { λ r. ⌜ (view r ≡ rules.decode (now (mem .entry)) code (view w)) × Ended 12 w r ⌝ }
+{
+    if code == 2 {
+        return store::put_core(w, stack::registers::pfix(store::core_of(w)));
+    }
+    if code == 6 {
+        return store::put_core(w, stack::registers::nfix(store::core_of(w)));
+    }
+    execute(w, mem, code)
+}
+
+// (c) One instruction byte is fetched.
+fn instruction(w: Plan, mem: &[u32]) -> Plan
+    requires { ⌜ Room 12 w × (w .count ≡ 0) ⌝ }
+    ensures { λ r. ⌜ (view r ≡ rules.instruction (now (mem .entry)) (view w)) × Ended 12 w r ⌝ }
+{
+    let a = w.regs[IPTR_REG];
+    let b = store::byte_at(w, mem, a);
+    decode(fetched(store::fetch_byte(w, mem, a), b), mem, b >> 4)
+}
+
+fn instruction_unless_idle(w: Plan, mem: &[u32]) -> Plan
+    requires { ⌜ Room 12 w × (w .count ≡ 0) ⌝ }
+    ensures { λ r. ⌜ (view r ≡ rules.instructionUnlessIdle (now (mem .entry)) (view w)) × Ended 12 w r ⌝ }
+{
+    if w.regs[FLAGS_REG] & IDLE_FLAG == 0 {
+        return instruction(w, mem);
+    }
+    store::refuse(w, IDLE)
+}
+
+// (b) A timer that is ready.
+fn timers_first(w: Plan, mem: &[u32]) -> Plan
+    requires { ⌜ Room 12 w × (w .count ≡ 0) ⌝ }
+    ensures { λ r. ⌜ (view r ≡ rules.timersFirst (now (mem .entry)) (view w)) × Ended 12 w r ⌝ }
+{
+    if timers::timer_ready(w, 0) {
+        return schedule::act_on_snp(timers::handle_timer_request(w, mem, 0), mem);
+    }
+    if timers::timer_ready(w, 1) {
+        return schedule::act_on_snp(timers::handle_timer_request(w, mem, 1), mem);
+    }
+    instruction_unless_idle(w, mem)
+}
+
+// (a) The lowest channel with a request.
+fn channels_first(w: Plan, mem: &[u32]) -> Plan
+    requires { ⌜ Room 12 w × (w .count ≡ 0) ⌝ }
+    ensures { λ r. ⌜ (view r ≡ rules.channelsFirst (now (mem .entry)) (view w)) × Ended 12 w r ⌝ }
+{
+    let c = channels::requested(w);
+    if c < 9 {
+        return schedule::act_on_snp(channels::handle_channel_request(w, mem, c), mem);
+    }
+    timers_first(w, mem)
+}
+
+fn choose(w: Plan, mem: &[u32]) -> Plan
+    requires { ⌜ Room 12 w × (w .count ≡ 0) ⌝ }
+    ensures { λ r. ⌜ (view r ≡ rules.choose (now (mem .entry)) (view w)) × Ended 12 w r ⌝ }
+{
+    if w.regs[OREG] == 0 {
+        return channels_first(w, mem);
+    }
+    instruction_unless_idle(w, mem)
+}
+
+// What a step does, or the refusal of its first condition or access that fails.
+pub fn step(regs: [u32; REGISTERS], mem: &[u32]) -> Plan
+    ensures { λ r. ⌜ (view r ≡ rules.step (now (mem .entry)) (begin regs)) × (r .cut ≤ r .n) × (r .n ≤ 16) ⌝ }
+{
+    if regs[FLAGS_REG] & HALTED_FLAG == 0 {
+        return halt_on_error(choose(store::begin(regs), mem), regs[STATUS_REG]);
+    }
+    store::refuse(store::begin(regs), HALTED)
+}

@@ -1,0 +1,31 @@
+use mathlib.Core.Path.{sym, _∙_}
+use Prim.Native.Nat.{_-_}
+use Rattle.rules.specs.Calls.{numberOf}
+use Rattle.t414.proofs.Refusing.{clear-refused, clear-done}
+use borrow.Author.Needs.{needs}
+use Rattle.t414.proofs.clear.Statement.{statement}
+use Rattle.t414.proofs.clear.Tie as tie
+
+size-bad-requires : tie.Need-size-bad-requires
+size-bad-requires c κs = search needs
+
+refuse-requires : tie.Need-refuse-requires
+refuse-requires c κs = search needs
+
+returns : tie.Need-returns
+returns c =
+    let i = c .before in
+    let z = i .before in
+    let a = z .before .before .before .args in
+    c .refuse .ensures (a .mem .now) (a .journal .now) ∙ clear-refused (a .m) (a .mem .now) (a .journal .now) (sym (z .size-bad .ensures) ∙ i .if1 .taken)
+
+returns-2 : tie.Need-returns-2
+unfolding numberOf
+returns-2 c =
+    let i = c .before in
+    let z = i .before in
+    let a = z .before .before .before .args in
+    clear-done (a .m) (a .mem .now) (a .journal .now) (sym (z .size-bad .ensures) ∙ i .if1 .left)
+
+pub clear-spec : {M : Type 1} → statement M
+clear-spec = tie.close (tie.spec size-bad-requires refuse-requires returns returns-2)

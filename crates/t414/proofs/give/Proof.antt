@@ -1,0 +1,94 @@
+use native.Mathlib.Omega.{arith}
+use mathlib.Core.Path.{_≡_, sym, _∙_}
+use Prim.Native.Nat.{_-_}
+use lib.ListN.{length}
+use Rattle.rules.specs.Registers.{registers}
+use Rattle.rules.specs.Calls.{give}
+use Rattle.t414.proofs.Refusing.{number-known, stopped, passed, ready, give-known, channel-good, input-good}
+use borrow.Author.Needs.{needs}
+use Rattle.t414.proofs.give.Statement.{statement}
+use Rattle.t414.proofs.give.Tie as tie
+
+long : (c : tie.Start) → length (c .args .m .regs) ≡ registers
+long c = search needs
+
+not-input-requires : tie.Need-not-input-requires
+not-input-requires c κs = search needs
+
+first-bad-requires : tie.Need-first-bad-requires
+first-bad-requires c κs = search needs
+
+refuse-requires : tie.Need-refuse-requires
+refuse-requires c κs =
+    let f = c .before in
+    let n = f .before in
+    let a = n .before .before .before .args in
+    omega (arith, f .first-bad .ensures, number-known (n .not-input .result) (a .m) (a .mem .now) (a .journal .now))
+
+returns : tie.Need-returns
+unfolding give
+returns c =
+    let i = c .before in
+    let f = i .before in
+    let n = f .before in
+    let a = n .before .before .before .args in
+    rw (← n .not-input .ensures) (c .refuse .ensures (a .mem .now) (a .journal .now) ∙ stopped (n .not-input .result) (a .m) (a .mem .now) (a .journal .now) _ (f .first-bad .result) (f .first-bad .ensures) (i .if1 .taken))
+
+begin-requires : tie.Need-begin-requires
+begin-requires c κs = search needs
+
+give-requires : tie.Need-give-requires
+give-requires c κs =
+    let b = c .before in
+    let i = b .before .before in
+    let f = i .before in
+    let n = f .before in
+    let a = n .before .before .before .args in
+    let g = input-good (a .channel) (sym (n .not-input .ensures) ∙ channel-good (n .not-input .result) (a .m) (a .mem .now) (a .journal .now) (sym (f .first-bad .ensures) ∙ i .if1 .left)) in
+    (omega (arith, g), search needs, (omega (arith, b .begin .ensures), omega (arith, b .begin .ensures)))
+
+settle-requires : tie.Need-settle-requires
+settle-requires c κs =
+    let v = c .before .before in
+    let b = v .before .before in
+    let i = b .before .before in
+    let f = i .before in
+    let n = f .before in
+    let S = n .before .before .before in
+    let a = S .args in
+    let p = v .give .result in
+    let e = rw (b .begin .ensures .0) at (v .give .ensures .0) in
+    ready (n .not-input .result) (a .m) (a .mem .now) (a .journal .now) (sym (f .first-bad .ensures) ∙ i .if1 .left) p (give-known (a .m .regs) (long S) p (a .mem .now) (a .channel) (a .byte) e) (omega (arith, v .give .ensures .1, b .begin .ensures)) (omega (arith, v .give .ensures .1, b .begin .ensures))
+
+same-length : tie.Need-same-length
+same-length c = search needs
+
+same-length-2 : tie.Need-same-length-2
+same-length-2 c = search needs
+
+returns-2 : tie.Need-returns-2
+unfolding give
+returns-2 c =
+    let s = c .before .before .before .before in
+    let v = s .before .before .before in
+    let b = v .before .before in
+    let i = b .before .before in
+    let f = i .before in
+    let n = f .before in
+    let a = n .before .before .before .args in
+    rw (← n .not-input .ensures) ((rw (v .give .ensures .0, b .begin .ensures .0) at (s .settle .ensures)) ∙ passed (n .not-input .result) (a .m) (a .mem .now) (a .journal .now) (sym (f .first-bad .ensures) ∙ i .if1 .left) _)
+
+pub give-spec : {M : Type 1} → statement M
+give-spec =
+    tie.close
+    (tie.spec
+    not-input-requires
+    first-bad-requires
+    refuse-requires
+    returns
+    begin-requires
+    give-requires
+    settle-requires
+    same-length
+    same-length-2
+    returns-2)

@@ -1,0 +1,113 @@
+use native.Mathlib.Omega.{arith}
+use mathlib.Core.Path.{_≡_, sym, _∙_}
+use lib.ListN.{length}
+use mathlib.Core.Bool.{false}
+use Rattle.rules.specs.Registers.{registers}
+use Rattle.rules.specs.Calls.{step}
+use Rattle.t414.proofs.Refusing.{number-known, stopped, passed, ready, fits, frame-good, step-known}
+use Rattle.t414.proofs.Commons.{common-step-is}
+use borrow.Author.Needs.{needs}
+use Rattle.t414.proofs.step.Statement.{statement}
+use Rattle.t414.proofs.step.Tie as tie
+
+long : (c : tie.Start) → length (c .args .m .regs) ≡ registers
+long c = search needs
+
+first-bad-requires : tie.Need-first-bad-requires
+first-bad-requires c κs = search needs
+
+refuse-requires : tie.Need-refuse-requires
+refuse-requires c κs =
+    let f = c .before in
+    let a = f .before .before .before .args in
+    omega (arith, f .first-bad .ensures, number-known false (a .m) (a .mem .now) (a .journal .now))
+
+returns : tie.Need-returns
+unfolding step
+returns c =
+    let i = c .before in
+    let f = i .before in
+    let a = f .before .before .before .args in
+    c .refuse .ensures (a .mem .now) (a .journal .now) ∙ stopped false (a .m) (a .mem .now) (a .journal .now) _ (f .first-bad .result) (f .first-bad .ensures) (i .if1 .taken)
+
+common-step-requires : tie.Need-common-step-requires
+common-step-requires c κs = search needs
+
+commit-common-requires : tie.Need-commit-common-requires
+commit-common-requires c κs =
+    let s = c .before .before .before in
+    let i = s .before .before .before in
+    let f = i .before in
+    let a = f .before .before .before .args in
+    let h = sym (f .first-bad .ensures) ∙ i .if1 .left in
+    (fits false (a .m) (a .mem .now) (a .journal .now) h .1, frame-good false (a .m) (a .mem .now) (a .journal .now) h)
+
+same-length : tie.Need-same-length
+same-length c = search needs
+
+same-length-2 : tie.Need-same-length-2
+same-length-2 c = search needs
+
+returns-2 : tie.Need-returns-2
+unfolding step
+returns-2 c =
+    let g = c .before .before .before .before in
+    let k = g .before .before .before in
+    let s = k .before in
+    let i = s .before .before .before in
+    let f = i .before in
+    let S = f .before .before .before in
+    let a = S .args in
+    g .commit-common .ensures
+    ∙ common-step-is (a .m) (a .mem .now) (a .journal .now) (s .common-step .result) (long S) (s .common-step .ensures) (k .if2 .taken)
+    ∙ passed false (a .m) (a .mem .now) (a .journal .now) (sym (f .first-bad .ensures) ∙ i .if1 .left) _
+
+step-requires : tie.Need-step-requires
+step-requires c κs = search needs
+
+settle-requires : tie.Need-settle-requires
+settle-requires c κs =
+    let v = c .before .before in
+    let s = v .before .before .before in
+    let i = s .before .before .before in
+    let f = i .before in
+    let S = f .before .before .before in
+    let a = S .args in
+    let p = v .step .result in
+    ready false (a .m) (a .mem .now) (a .journal .now) (sym (f .first-bad .ensures) ∙ i .if1 .left) p
+    (step-known (a .m .regs) (long S) p (a .mem .now) (v .step .ensures .0)) (omega (arith, v .step .ensures)) (omega (arith, v .step .ensures))
+
+same-length-3 : tie.Need-same-length-3
+same-length-3 c = search needs
+
+same-length-4 : tie.Need-same-length-4
+same-length-4 c = search needs
+
+returns-3 : tie.Need-returns-3
+unfolding step
+returns-3 c =
+    let g = c .before .before .before .before in
+    let v = g .before .before .before in
+    let s = v .before .before .before in
+    let i = s .before .before .before in
+    let f = i .before in
+    let a = f .before .before .before .args in
+    (rw (v .step .ensures .0) at (g .settle .ensures)) ∙ passed false (a .m) (a .mem .now) (a .journal .now) (sym (f .first-bad .ensures) ∙ i .if1 .left) _
+
+pub step-spec : {M : Type 1} → statement M
+step-spec =
+    tie.close
+    (tie.spec
+    first-bad-requires
+    refuse-requires
+    returns
+    common-step-requires
+    commit-common-requires
+    same-length
+    same-length-2
+    returns-2
+    step-requires
+    settle-requires
+    same-length-3
+    same-length-4
+    returns-3)

@@ -1,0 +1,101 @@
+use native.Mathlib.Omega.{arith}
+use mathlib.Core.Path.{_≡_, sym, _∙_}
+use Prim.Native.Nat.{_-_}
+use lib.ListN.{length}
+use lib.Dec.{leb}
+use Rattle.rules.specs.Registers.{registers}
+use Rattle.rules.specs.Calls.{take, notOutput}
+use Rattle.t414.proofs.Refusing.{number-known, stopped, passed, ready, take-known, channel-good, output-good}
+use borrow.Author.Needs.{needs}
+use Rattle.t414.proofs.take.Statement.{statement}
+use Rattle.t414.proofs.take.Tie as tie
+
+long : (c : tie.Start) → length (c .args .m .regs) ≡ registers
+long c = search needs
+
+first-bad-requires : tie.Need-first-bad-requires
+first-bad-requires c κs = search needs
+
+refuse-requires : tie.Need-refuse-requires
+refuse-requires c κs =
+    let f = c .before in
+    let a = f .before .before .before .args in
+    omega (arith, f .first-bad .ensures, number-known (leb 4 (a .channel)) (a .m) (a .mem .now) (a .journal .now))
+
+returns : tie.Need-returns
+unfolding take notOutput
+returns c =
+    let i = c .before in
+    let f = i .before in
+    let a = f .before .before .before .args in
+    c .refuse .ensures (a .mem .now) (a .journal .now) ∙ stopped (leb 4 (a .channel)) (a .m) (a .mem .now) (a .journal .now) _ (f .first-bad .result) (f .first-bad .ensures) (i .if1 .taken)
+
+begin-requires : tie.Need-begin-requires
+begin-requires c κs = search needs
+
+taken-requires : tie.Need-taken-requires
+taken-requires c κs =
+    let b = c .before in
+    let i = b .before .before in
+    let f = i .before in
+    let a = f .before .before .before .args in
+    let g = output-good (a .channel) (channel-good (leb 4 (a .channel)) (a .m) (a .mem .now) (a .journal .now) (sym (f .first-bad .ensures) ∙ i .if1 .left)) in
+    (omega (arith, g), (omega (arith, b .begin .ensures), omega (arith, b .begin .ensures)))
+
+take-requires : tie.Need-take-requires
+take-requires c κs =
+    let b = c .before .before .before in
+    let i = b .before .before in
+    let f = i .before in
+    let a = f .before .before .before .args in
+    let g = output-good (a .channel) (channel-good (leb 4 (a .channel)) (a .m) (a .mem .now) (a .journal .now) (sym (f .first-bad .ensures) ∙ i .if1 .left)) in
+    (omega (arith, g), (omega (arith, b .begin .ensures), omega (arith, b .begin .ensures)))
+
+cast-settle : tie.Need-cast-settle
+cast-settle c = search needs
+
+settle-requires : tie.Need-settle-requires
+settle-requires c κs =
+    let v = c .before .before in
+    let b = v .before .before .before .before in
+    let i = b .before .before in
+    let f = i .before in
+    let S = f .before .before .before in
+    let a = S .args in
+    let p = v .take .result in
+    let e = rw (b .begin .ensures .0) at (v .take .ensures .0) in
+    ready (leb 4 (a .channel)) (a .m) (a .mem .now) (a .journal .now) (sym (f .first-bad .ensures) ∙ i .if1 .left) p (take-known (a .m .regs) (long S) p (a .mem .now) (a .channel) e) (omega (arith, v .take .ensures .1, b .begin .ensures)) (omega (arith, v .take .ensures .1, b .begin .ensures))
+
+same-length : tie.Need-same-length
+same-length c = search needs
+
+same-length-2 : tie.Need-same-length-2
+same-length-2 c = search needs
+
+returns-2 : tie.Need-returns-2
+unfolding take notOutput
+returns-2 c =
+    let s = c .before .before .before .before in
+    let v = s .before .before .before in
+    let t = v .before .before in
+    let b = t .before .before in
+    let i = b .before .before in
+    let f = i .before in
+    let a = f .before .before .before .args in
+    (rw (v .take .ensures .0, t .taken .ensures .0, b .begin .ensures .0) at (s .settle .ensures)) ∙ passed (leb 4 (a .channel)) (a .m) (a .mem .now) (a .journal .now) (sym (f .first-bad .ensures) ∙ i .if1 .left) _
+
+pub take-spec : {M : Type 1} → statement M
+take-spec =
+    tie.close
+    (tie.spec
+    first-bad-requires
+    refuse-requires
+    returns
+    begin-requires
+    taken-requires
+    take-requires
+    cast-settle
+    settle-requires
+    same-length
+    same-length-2
+    returns-2)

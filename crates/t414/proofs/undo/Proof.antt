@@ -1,0 +1,75 @@
+use native.Mathlib.Omega.{arith}
+use mathlib.Core.Path.{_≡_, sym, _∙_}
+use Prim.Native.Nat.{_-_}
+use mathlib.Core.Bool.{false}
+use Rattle.rules.specs.Calls.{undo}
+use Rattle.t414.proofs.Refusing.{number-known, stopped, undo-none, undo-some, frame-good}
+use borrow.Author.Needs.{needs}
+use Rattle.t414.proofs.undo.Statement.{statement}
+use Rattle.t414.proofs.undo.Tie as tie
+
+first-bad-requires : tie.Need-first-bad-requires
+first-bad-requires c κs = search needs
+
+refuse-requires : tie.Need-refuse-requires
+refuse-requires c κs =
+    let f = c .before in
+    let a = f .before .before .before .args in
+    omega (arith, f .first-bad .ensures, number-known false (a .m) (a .mem .now) (a .journal .now))
+
+returns : tie.Need-returns
+unfolding undo
+returns c =
+    let i = c .before in
+    let f = i .before in
+    let a = f .before .before .before .args in
+    c .refuse .ensures (a .mem .now) (a .journal .now) ∙ stopped false (a .m) (a .mem .now) (a .journal .now) _ (f .first-bad .result) (f .first-bad .ensures) (i .if1 .taken)
+
+refuse-requires-2 : tie.Need-refuse-requires-2
+refuse-requires-2 c κs = search needs
+
+returns-2 : tie.Need-returns-2
+returns-2 c =
+    let d = c .before in
+    let i = d .before .before in
+    let f = i .before in
+    let a = f .before .before .before .args in
+    c .refuse2 .ensures (a .mem .now) (a .journal .now) ∙ undo-none (a .m) (a .mem .now) (a .journal .now) (sym (f .first-bad .ensures) ∙ i .if1 .left) (d .if2 .taken)
+
+undo-last-requires : tie.Need-undo-last-requires
+undo-last-requires c κs =
+    let d = c .before .before in
+    let i = d .before .before in
+    let f = i .before in
+    let a = f .before .before .before .args in
+    let z : a .m .depth ≡ 0 → ⊥ = d .if2 .left in
+    (frame-good false (a .m) (a .mem .now) (a .journal .now) (sym (f .first-bad .ensures) ∙ i .if1 .left), omega (arith, z))
+
+same-length : tie.Need-same-length
+same-length c = search needs
+
+same-length-2 : tie.Need-same-length-2
+same-length-2 c = search needs
+
+returns-3 : tie.Need-returns-3
+returns-3 c =
+    let u = c .before .before in
+    let d = u .before .before .before in
+    let i = d .before .before in
+    let f = i .before in
+    let a = f .before .before .before .args in
+    u .undo-last .ensures ∙ undo-some (a .m) (a .mem .now) (a .journal .now) (sym (f .first-bad .ensures) ∙ i .if1 .left) (d .if2 .left)
+
+pub undo-spec : {M : Type 1} → statement M
+undo-spec =
+    tie.close
+    (tie.spec
+    first-bad-requires
+    refuse-requires
+    returns
+    refuse-requires-2
+    returns-2
+    undo-last-requires
+    same-length
+    same-length-2
+    returns-3)

@@ -1,0 +1,144 @@
+// The public calls of the T414 stepper: from any machine, memory, journal and arguments to the reply, with the lent words as the call leaves them.
+// Each checks sizes, channel and frame, then plans, then commits; a refusal alters nothing.
+use rules::Answer;
+use rules::Machine;
+use rules::Reply;
+ghost use mathlib.Core.Path.{_≡_};
+ghost use Rattle.rules.specs.Calls as rules;
+ghost use Rattle.rules.specs.Calls.{outcomeOf};
+
+mod checks;
+mod load;
+mod settle;
+
+// A machine with the code loaded; memory is made anew, the journal is not written.
+pub fn fresh(mem: &mut [u32], journal: &mut [u32], code: &[u8]) -> Reply
+    ensures { λ r. ⌜ outcomeOf r (now (mem .exit)) (now (journal .exit)) ≡ rules.fresh (now (code .entry)) (now (mem .entry)) (now (journal .entry)) ⌝ }
+{
+    if checks::size_bad(mem.len(), journal.len()) {
+        return settle::refuse(load::no_machine(), 1);
+    }
+    if load::code_bad(mem.len(), code.len()) {
+        return settle::refuse(load::no_machine(), 2);
+    }
+    load::fill(mem, code);
+    let machine = load::fresh_machine(code.len());
+    Reply {
+        machine,
+        answer: Answer::Done,
+        byte: 0,
+    }
+}
+
+// One step of the machine. Nearly every step is a common one, which needs no plan (crate swift); the engine does the others.
+pub fn step(m: Machine, mem: &mut [u32], journal: &mut [u32]) -> Reply
+    ensures { λ r. ⌜ outcomeOf r (now (mem .exit)) (now (journal .exit)) ≡ rules.step m (now (mem .entry)) (now (journal .entry)) ⌝ }
+{
+    let number = checks::first_bad(false, mem.len(), journal.len(), m.depth, m.used);
+    if number != 0 {
+        return settle::refuse(m, number);
+    }
+    let regs = m.regs;
+    let t = swift::common_step(mem, regs);
+    let common = t.done;
+    if common {
+        return journal::commit_common(m, t, mem, journal);
+    }
+    let p = engine::step(regs, mem);
+    settle::settle(m, p, 0, mem, journal)
+}
+
+// The clocks go on by one.
+pub fn tick(m: Machine, mem: &mut [u32], journal: &mut [u32]) -> Reply
+    ensures { λ r. ⌜ outcomeOf r (now (mem .exit)) (now (journal .exit)) ≡ rules.tick m (now (mem .entry)) (now (journal .entry)) ⌝ }
+{
+    let number = checks::first_bad(false, mem.len(), journal.len(), m.depth, m.used);
+    if number != 0 {
+        return settle::refuse(m, number);
+    }
+    let regs = m.regs;
+    let p = links::clocks::tick(store::begin(regs));
+    settle::settle(m, p, 0, mem, journal)
+}
+
+// A byte is taken from an output link.
+pub fn take(m: Machine, mem: &mut [u32], journal: &mut [u32], channel: u32) -> Reply
+    ensures { λ r. ⌜ outcomeOf r (now (mem .exit)) (now (journal .exit)) ≡ rules.take channel m (now (mem .entry)) (now (journal .entry)) ⌝ }
+{
+    let number = checks::first_bad(4 <= channel, mem.len(), journal.len(), m.depth, m.used);
+    if number != 0 {
+        return settle::refuse(m, number);
+    }
+    let c = channel as usize;
+    let regs = m.regs;
+    let w = store::begin(regs);
+    let byte = links::taken(w, mem, c);
+    let p = links::take(w, mem, c);
+    settle::settle(m, p, byte as u8, mem, journal)
+}
+
+// A byte is given to an input link.
+pub fn give(m: Machine, mem: &mut [u32], journal: &mut [u32], channel: u32, byte: u8) -> Reply
+    ensures { λ r. ⌜ outcomeOf r (now (mem .exit)) (now (journal .exit)) ≡ rules.give channel byte m (now (mem .entry)) (now (journal .entry)) ⌝ }
+{
+    let number = checks::first_bad(
+        checks::not_input(channel),
+        mem.len(),
+        journal.len(),
+        m.depth,
+        m.used,
+    );
+    if number != 0 {
+        return settle::refuse(m, number);
+    }
+    let regs = m.regs;
+    let p = links::give(store::begin(regs), mem, channel as usize, byte as u32);
+    settle::settle(m, p, 0, mem, journal)
+}
+
+// The event pin is raised.
+pub fn event(m: Machine, mem: &mut [u32], journal: &mut [u32]) -> Reply
+    ensures { λ r. ⌜ outcomeOf r (now (mem .exit)) (now (journal .exit)) ≡ rules.event m (now (mem .entry)) (now (journal .entry)) ⌝ }
+{
+    let number = checks::first_bad(false, mem.len(), journal.len(), m.depth, m.used);
+    if number != 0 {
+        return settle::refuse(m, number);
+    }
+    let regs = m.regs;
+    let p = links::event(store::begin(regs));
+    settle::settle(m, p, 0, mem, journal)
+}
+
+// The last accepted call is taken back.
+pub fn undo(m: Machine, mem: &mut [u32], journal: &mut [u32]) -> Reply
+    ensures { λ r. ⌜ outcomeOf r (now (mem .exit)) (now (journal .exit)) ≡ rules.undo m (now (mem .entry)) (now (journal .entry)) ⌝ }
+{
+    let number = checks::first_bad(false, mem.len(), journal.len(), m.depth, m.used);
+    if number != 0 {
+        return settle::refuse(m, number);
+    }
+    if m.depth == 0 {
+        return settle::refuse(m, 5);
+    }
+    journal::undo_last(m, mem, journal)
+}
+
+// The journal is emptied; nothing else changes.
+pub fn clear(m: Machine, mem: &mut [u32], journal: &mut [u32]) -> Reply
+    ensures { λ r. ⌜ outcomeOf r (now (mem .exit)) (now (journal .exit)) ≡ rules.clear m (now (mem .entry)) (now (journal .entry)) ⌝ }
+{
+    if checks::size_bad(mem.len(), journal.len()) {
+        return settle::refuse(m, 1);
+    }
+    let regs = m.regs;
+    let machine = Machine {
+        regs,
+        depth: 0,
+        used: 0,
+    };
+    Reply {
+        machine,
+        answer: Answer::Done,
+        byte: 0,
+    }
+}

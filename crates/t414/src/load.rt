@@ -1,0 +1,115 @@
+// A fresh machine: memory from the code, and the registers.
+use names::FPTR_REG_HIGH;
+use names::FPTR_REG_LOW;
+use names::IPTR_REG;
+use names::MEM_START;
+use names::MEM_START_WORD;
+use names::NOT_PROCESS;
+use names::WDESC_REG;
+use rules::Machine;
+use rules::REGISTERS;
+ghost use mathlib.Core.Path.{_≡_};
+ghost use Prim.Native.Nat.{_<_, _≤_};
+ghost use lib.ListN.{length, getD};
+ghost use Rattle.rules.specs.Calls as rules;
+
+// Whether n bytes of code do not fit a memory of size words: none, or no whole word left after them. Nothing wraps.
+pub fn code_bad(size: usize, n: usize) -> bool
+    requires { ⌜ (64 ≤ size) × (size ≤ 16384) ⌝ }
+    ensures { λ r. ⌜ r ≡ rules.codeBad size n ⌝ }
+{
+    if n == 0 {
+        return true;
+    }
+    4 * (size - MEM_START_WORD - 1) < n
+}
+
+// Byte k of the code, 0 past its end.
+fn code_byte(code: &[u8], k: usize) -> u32
+    ensures { λ r. ⌜ (r ≡ getD (now (code .entry)) k 0) × (r < 256) ⌝ }
+{
+    if k < code.len() {
+        return code[k] as u32;
+    }
+    0
+}
+
+// Word k of the code.
+fn code_word(code: &[u8], k: usize) -> u32
+    requires { ⌜ k ≤ 16384 ⌝ }
+    ensures { λ r. ⌜ r ≡ rules.codeWord (now (code .entry)) k ⌝ }
+{
+    let at = 4 * k;
+    let b0 = code_byte(code, at);
+    let b1 = code_byte(code, at + 1);
+    let b2 = code_byte(code, at + 2);
+    let b3 = code_byte(code, at + 3);
+    b0 + 256 * b1 + 65536 * b2 + 16777216 * b3
+}
+
+// Word i of a fresh memory.
+fn fresh_word(code: &[u8], i: usize) -> u32
+    requires { ⌜ i ≤ 16384 ⌝ }
+    ensures { λ r. ⌜ r ≡ rules.freshWord (now (code .entry)) i ⌝ }
+{
+    if i < 12 {
+        return NOT_PROCESS;
+    }
+    if i < MEM_START_WORD {
+        return 0;
+    }
+    code_word(code, i - MEM_START_WORD)
+}
+
+// Makes memory anew.
+pub fn fill(mem: &mut [u32], code: &[u8])
+    requires { ⌜ length (now mem) ≤ 16384 ⌝ }
+    ensures { λ _. ⌜ now (mem .exit) ≡ rules.freshMemory (now (code .entry)) 0 (length (now (mem .entry))) ⌝ }
+{
+    let mut i = 0;
+    let mut left = mem.len();
+    while 0 < left {
+        mem[i] = fresh_word(code, i);
+        i += 1;
+        left -= 1;
+    }
+}
+
+// The registers with n bytes of code.
+fn fresh_regs(n: usize) -> [u32; REGISTERS]
+    requires { ⌜ n ≤ 65536 ⌝ }
+    ensures { λ r. ⌜ r ≡ rules.freshRegs n ⌝ }
+{
+    let words = ((n + 3) / 4) as u32;
+    let top = MEM_START + 4 * words;
+    let mut regs = [0u32; REGISTERS];
+    regs[IPTR_REG] = MEM_START;
+    regs[WDESC_REG] = top | 1;
+    regs[FPTR_REG_HIGH] = NOT_PROCESS;
+    regs[FPTR_REG_LOW] = NOT_PROCESS;
+    regs
+}
+
+pub fn fresh_machine(n: usize) -> Machine
+    requires { ⌜ n ≤ 65536 ⌝ }
+    ensures { λ r. ⌜ r ≡ rules.machineOf (rules.freshRegs n) 0 0 ⌝ }
+{
+    let regs = fresh_regs(n);
+    Machine {
+        regs,
+        depth: 0,
+        used: 0,
+    }
+}
+
+// What a refused fresh hands back.
+pub fn no_machine() -> Machine
+    ensures { λ r. ⌜ r ≡ rules.noMachine ⌝ }
+{
+    let regs = [0u32; REGISTERS];
+    Machine {
+        regs,
+        depth: 0,
+        used: 0,
+    }
+}

@@ -1,0 +1,62 @@
+use lib.ListN.{length-set}
+use native.Mathlib.Omega.{arith}
+use borrow.Author.Needs.{needs}
+use Rattle.t414_batch.proofs.bytes.put_word.Statement.{statement}
+use Rattle.t414_batch.proofs.bytes.put_word.Tie as tie
+
+low-requires : tie.Need-low-requires
+low-requires c κs = search needs
+
+slice-write-dst : tie.Need-slice-write-dst
+slice-write-dst c = search needs
+
+low-requires-2 : tie.Need-low-requires-2
+low-requires-2 c κs = search needs
+
+add-dst : tie.Need-add-dst
+add-dst c = search needs
+
+slice-write-dst-2 : tie.Need-slice-write-dst-2
+slice-write-dst-2 c = simp length-set (omega arith)
+
+low-requires-3 : tie.Need-low-requires-3
+low-requires-3 c κs = search needs
+
+add-dst-2 : tie.Need-add-dst-2
+add-dst-2 c = search needs
+
+slice-write-dst-3 : tie.Need-slice-write-dst-3
+slice-write-dst-3 c = simp length-set (omega arith)
+
+low-requires-4 : tie.Need-low-requires-4
+low-requires-4 c κs = search needs
+
+add-dst-3 : tie.Need-add-dst-3
+add-dst-3 c = search needs
+
+slice-write-dst-4 : tie.Need-slice-write-dst-4
+slice-write-dst-4 c = simp length-set (omega arith)
+
+same-length : tie.Need-same-length
+same-length c = search needs
+
+returns : tie.Need-returns
+returns c = search needs
+
+pub put-word-spec : {M : Type 1} → statement M
+put-word-spec =
+    tie.close
+    (tie.spec
+    low-requires
+    slice-write-dst
+    low-requires-2
+    add-dst
+    slice-write-dst-2
+    low-requires-3
+    add-dst-2
+    slice-write-dst-3
+    low-requires-4
+    add-dst-3
+    slice-write-dst-4
+    same-length
+    returns)

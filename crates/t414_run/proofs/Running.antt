@@ -1,0 +1,47 @@
+-- A turn of the program's loop, and its ends, in terms of the definitions. Assumes nothing.
+use Prim.Native.Nat.{ℕ, zero, suc, _+_, _-_, _≤_, _<_}
+use mathlib.Core.Path.{_≡_, refl, sym, _∙_}
+use mathlib.Core.List.{List}
+use native.Mathlib.Omega.{arith}
+use Rattle.rules.specs.Calls.{numberOf, outcomeOf, fresh, step}
+use Rattle.rules.specs.declared.Machine.{Machine}
+use Rattle.rules.specs.declared.Reply.{Reply}
+use Rattle.rules.proofs.Tests.{yes-eq, no-eq}
+use Rattle.t414_run.specs.Program.{Result, endAt, run, program}
+
+-- a step that was made: its machine, memory and journal, its reply, the words that it leaves, and the reply's number
+module _ (m : Machine) (mem j : List ℕ) (r : Reply) (mem' j' : List ℕ) (k : ℕ) (e : outcomeOf r mem' j' ≡ step m mem j) (n : k ≡ numberOf (r .answer)) where
+  pub run-on : (s : ℕ) → s < 100 → k ≡ 0 → run (100 - (s + 1)) (s + 1) (r .machine) mem' j' ≡ run (100 - s) s m mem j
+  unfolding run
+  run-on s h z =
+      let d : 100 - s ≡ suc (100 - (s + 1)) = omega arith in
+      rw (d, ← e, yes-eq (sym n ∙ z))
+
+  pub run-end :
+      (s : ℕ) →
+      s < 100 →
+      (k ≡ 0 → ⊥) →
+      record { machine = r .machine; steps = s; refusal = k; memory = mem'; journal = j' } ≡ run (100 - s) s m mem j
+  unfolding run
+  run-end s h z =
+      let d : 100 - s ≡ suc (100 - (s + 1)) = omega arith in
+      rw (d, ← e, ← n, no-eq z)
+
+pub run-full :
+    (m : Machine) (mem j : List ℕ) (s : ℕ) →
+    100 ≤ s →
+    record { machine = m; steps = s; refusal = 0; memory = mem; journal = j } ≡ run (100 - s) s m mem j
+unfolding run
+run-full m mem j s h = let d : 100 - s ≡ 0 = omega arith in rw d
+
+-- the same of fresh
+module _ (code mem j : List ℕ) (r : Reply) (mem' j' : List ℕ) (k : ℕ) (e : outcomeOf r mem' j' ≡ fresh code mem j) (n : k ≡ numberOf (r .answer)) where
+  pub program-on : k ≡ 0 → run 100 0 (r .machine) mem' j' ≡ program code mem j
+  unfolding program
+  program-on z = rw (← e, yes-eq (sym n ∙ z))
+
+  pub program-end :
+      (k ≡ 0 → ⊥) →
+      record { machine = r .machine; steps = 0; refusal = k; memory = mem'; journal = j' } ≡ program code mem j
+  unfolding program
+  program-end z = rw (← e, ← n, no-eq z)

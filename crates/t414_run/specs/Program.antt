@@ -1,0 +1,39 @@
+-- What the program of 01 comes to, from any code (01, Numbers at the edges). Assumes nothing.
+use Prim.Native.Nat.{ℕ, zero, suc, _+_}
+use mathlib.Core.List.{List}
+use Rattle.rules.specs.Tests.{ifEq}
+use Rattle.rules.specs.Calls.{Outcome, fresh, step}
+use Rattle.rules.specs.declared.Machine.{Machine}
+use Rattle.t414_run.specs.declared.Tally.{Tally}
+
+pub record Result : Type 0 where
+  pub machine : Machine
+  pub steps : ℕ
+  pub refusal : ℕ
+  pub memory : List ℕ
+  pub journal : List ℕ
+
+-- what the code hands back: its tally, and the lent words as they then are
+abbrev pub resultOf : Tally → List ℕ → List ℕ → Result
+resultOf t mem j =
+    record { machine = t .machine; steps = t .steps; refusal = t .refusal; memory = mem; journal = j }
+
+-- an end at an outcome, after some accepted steps
+abbrev pub endAt : ℕ → Outcome → Result
+endAt steps o =
+    record { machine = o .machine; steps = steps; refusal = o .answer; memory = o .memory; journal = o .journal }
+
+-- up to n steps more, until a refusal
+unfoldable pub run : ℕ → ℕ → Machine → List ℕ → List ℕ → Result
+run zero steps m mem j = record { machine = m; steps = steps; refusal = 0; memory = mem; journal = j }
+run (suc n) steps m mem j =
+    ifEq (step m mem j .answer) 0
+    (run n (steps + 1) (step m mem j .machine) (step m mem j .memory) (step m mem j .journal))
+    (endAt steps (step m mem j))
+
+-- fresh, and up to 100 steps if it is accepted
+unfoldable pub program : List ℕ → List ℕ → List ℕ → Result
+program code mem j =
+    ifEq (fresh code mem j .answer) 0
+    (run 100 0 (fresh code mem j .machine) (fresh code mem j .memory) (fresh code mem j .journal))
+    (endAt 0 (fresh code mem j))

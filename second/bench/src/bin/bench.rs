@@ -1,0 +1,106 @@
+//! Measures the proved stepper against the second emulator and prints a table.
+#![forbid(unsafe_code)]
+
+use std::io::Write;
+use std::process::ExitCode;
+
+use bench::scenario::{all, Scenario};
+use bench::table::{round, row, Options, HEADING};
+use comparer::process::Program;
+
+const USAGE: &str = "\
+bench [--counts | --times] [--runs N] [--calls N] [--lines LIST] [PROGRAM_A PROGRAM_B]
+bench --input LINE ROUNDS
+Without --counts or --times, both are measured. A program is a path, a name (beside bench, else
+Rattle's target/bin) or rattle:PATH; t414_bench and second_bench if none are given.
+--counts      instructions a call
+--times       calls a second, the best of --runs (7) runs of about --calls (500,000) calls
+--lines LIST  only these lines: arithmetic,call,channel,move,nothing,tick
+--input       write a line's input for so many rounds to standard output";
+
+struct Arguments {
+    options: Options,
+    lines: Vec<Scenario>,
+    programs: [String; 2],
+}
+
+fn main() -> ExitCode {
+    let given: Vec<String> = std::env::args().skip(1).collect();
+    let outcome = match given.split_first() {
+        Some((first, rest)) if first == "--input" => input(rest),
+        _ => arguments(given).and_then(|arguments| measure(&arguments)),
+    };
+    match outcome {
+        Ok(()) => ExitCode::SUCCESS,
+        Err(text) => {
+            eprintln!("bench: {text}");
+            ExitCode::FAILURE
+        }
+    }
+}
+
+fn arguments(given: Vec<String>) -> Result<Arguments, String> {
+    let (mut only, mut lines, mut places) = (None, all(), Vec::new());
+    let (mut runs, mut calls) = (7, 500_000);
+    let mut given = given.into_iter();
+    while let Some(argument) = given.next() {
+        let mut next = || given.next().ok_or(USAGE);
+        match argument.as_str() {
+            "--counts" | "--times" => only = Some(argument),
+            "--runs" => runs = next()?.parse().map_err(|_| USAGE)?,
+            "--calls" => calls = next()?.parse().map_err(|_| USAGE)?,
+            "--lines" => {
+                let wanted = next()?;
+                lines.retain(|line| wanted.split(',').any(|name| name == line.name));
+            }
+            flag if flag.starts_with("--") => return Err(USAGE.into()),
+            _ => places.push(argument),
+        }
+    }
+    if places.is_empty() {
+        places = vec!["t414_bench".into(), "second_bench".into()];
+    }
+    let programs = <[String; 2]>::try_from(places).map_err(|_| USAGE)?;
+    let options = Options {
+        counts: only.as_deref() != Some("--times"),
+        times: only.as_deref() != Some("--counts"),
+        runs,
+        calls,
+    };
+    Ok(Arguments {
+        options,
+        lines,
+        programs,
+    })
+}
+
+fn input(given: &[String]) -> Result<(), String> {
+    let [name, rounds] = given else {
+        return Err(USAGE.into());
+    };
+    let rounds = rounds.parse().map_err(|_| USAGE)?;
+    let line = all().into_iter().find(|line| line.name == name);
+    let bytes = line.ok_or(USAGE)?.input(rounds);
+    let written = std::io::stdout().write_all(&bytes);
+    written.map_err(|error| error.to_string())
+}
+
+/// A line for each scenario, and one for taking its steps back.
+fn measure(arguments: &Arguments) -> Result<(), String> {
+    let [a, b] = &arguments.programs;
+    let (first, second) = (Program::find(a)?, Program::find(b)?);
+    let programs = [&first, &second];
+    println!("{HEADING}");
+    for line in &arguments.lines {
+        let calls = line.counts(1).in_round();
+        let there = round(programs, line, &arguments.options)?;
+        println!("{}", row(line.what, there.of_one(calls)));
+        let back = line.with_undo();
+        if back.counts(1).undos > 0 {
+            let both = round(programs, &back, &arguments.options)?;
+            let what = format!("undo of it ({})", line.name);
+            println!("{}", row(&what, both.less(there).of_one(calls)));
+        }
+    }
+    Ok(())
+}
