@@ -13,9 +13,6 @@ use input::Scenario;
 use rules::Answer;
 use rules::Machine;
 use rules::Reply;
-ghost use mathlib.Core.Path.{_≡_};
-ghost use Prim.Native.Nat.{_≤_};
-ghost use lib.ListN.{length};
 
 const WORDS: usize = 16384;
 

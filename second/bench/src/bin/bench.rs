@@ -28,6 +28,10 @@ fn main() -> ExitCode {
     let given: Vec<String> = std::env::args().skip(1).collect();
     let outcome = match given.split_first() {
         Some((first, rest)) if first == "--input" => input(rest),
+        Some((first, _)) if first == "--help" => {
+            println!("{USAGE}");
+            Ok(())
+        }
         _ => arguments(given).and_then(|arguments| measure(&arguments)),
     };
     match outcome {
