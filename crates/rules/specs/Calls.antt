@@ -54,6 +54,7 @@ outcomeOf r mem j =
 abbrev pub refused : ℕ → Machine → List ℕ → List ℕ → Outcome
 refused n m mem j = record { answer = n; byte = 0; machine = m; memory = mem; journal = j }
 
+-- a machine from its parts
 abbrev pub machineOf : List ℕ → ℕ → ℕ → Machine
 machineOf regs depth used = record { regs = regs; depth = depth; used = used }
 
@@ -62,9 +63,11 @@ machineOf regs depth used = record { regs = regs; depth = depth; used = used }
 unfoldable pub memoryBad : ℕ → Bool
 memoryBad n = ltb n 64 || ltb 16384 n
 
+-- 1 Size: the journal is over 65,536 words (01, Answers by number)
 unfoldable pub journalBad : ℕ → Bool
 journalBad n = ltb 65536 n
 
+-- 1 Size (01, Answers by number)
 unfoldable pub sizeBad : List ℕ → List ℕ → Bool
 sizeBad mem j = memoryBad (length mem) || journalBad (length j)
 
@@ -100,23 +103,29 @@ checked badChannel m mem j o =
 unfoldable pub notOutput : ℕ → Bool
 notOutput c = leb 4 c
 
+-- 3 BadChannel: give outside 4 to 7 (01, Answers by number)
 unfoldable pub notInput : ℕ → Bool
 notInput c = ltb c 4 || leb 8 c
 
+-- step (01, One step)
 unfoldable pub step : Machine → List ℕ → List ℕ → Outcome
 step m mem j = checked false m mem j (settled m mem j 0 (steps.step mem (begin (m .regs))))
 
+-- tick (01, Links, clocks, slice)
 unfoldable pub tick : Machine → List ℕ → List ℕ → Outcome
 tick m mem j = checked false m mem j (settled m mem j 0 (links.tick (begin (m .regs))))
 
+-- take (01, Links, clocks, slice); the byte is that at the pointer
 unfoldable pub take : ℕ → Machine → List ℕ → List ℕ → Outcome
 take c m mem j =
     checked (notOutput c) m mem j
     (settled m mem j (links.taken mem c (begin (m .regs))) (links.take mem c (begin (m .regs))))
 
+-- give (01, Links, clocks, slice)
 unfoldable pub give : ℕ → ℕ → Machine → List ℕ → List ℕ → Outcome
 give c byte m mem j = checked (notInput c) m mem j (settled m mem j 0 (links.give mem c byte (begin (m .regs))))
 
+-- event (01, Links, clocks, slice)
 unfoldable pub event : Machine → List ℕ → List ℕ → Outcome
 event m mem j = checked false m mem j (settled m mem j 0 (links.event (begin (m .regs))))
 
@@ -133,11 +142,13 @@ undone m mem j pairs =
       journal = j;
     })
 
+-- 4 JournalBad of undo with depth above 0, then the undo (01, Answers by number)
 unfoldable pub undoLast : Machine → List ℕ → List ℕ → Outcome
 undoLast m mem j =
     ifLt (m .used) (recordLength (lastPairs j (m .used))) (refused 4 m mem j)
     (undone m mem j (pairsAt j (lastStart j (m .used)) (lastPairs j (m .used))))
 
+-- undo (01, The journal): 4 before 5 (DECISIONS 35)
 unfoldable pub undo : Machine → List ℕ → List ℕ → Outcome
 undo m mem j = checked false m mem j (ifEq (m .depth) 0 (refused 5 m mem j) (undoLast m mem j))
 
@@ -183,9 +194,11 @@ freshRegs n =
 unfoldable pub codeBad : ℕ → ℕ → Bool
 codeBad size n = eqb n 0 || leb size (memStartWord + codeWords n)
 
+-- the machine of a fresh that is refused: all 0 (01, Answers by number)
 abbrev pub noMachine : Machine
 noMachine = machineOf (replicate registers 0) 0 0
 
+-- fresh (01, Memory and registers); the journal is not written
 unfoldable pub fresh : List ℕ → List ℕ → List ℕ → Outcome
 fresh code mem j =
     pick (sizeBad mem j) (refused 1 noMachine mem j)

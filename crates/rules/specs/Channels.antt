@@ -20,6 +20,7 @@ requestFrom c zero w = linkChans
 requestFrom c (suc n) w =
     ifSet (runRequest + readyRequest) (reg (channelReg c) w) c (requestFrom (suc c) n w)
 
+-- the lowest channel with a request (01, One step (a))
 unfoldable pub requested : Work → ℕ
 requested w = requestFrom 0 linkChans w
 
@@ -39,22 +40,27 @@ module _ (m : List ℕ) where
   runContent hc content w =
       ifEq content notProcess w (run m content (wIndexWord m portBase hc notProcess w))
 
+  -- Request = RunRequest (000 1.8)
   unfoldable pub handleRunRequest : ℕ → Work → Work
   handleRunRequest hc w = runContent hc (wordAt m (atWord portBase hc) w) (loadWord m (atWord portBase hc) w)
 
+  -- status = Waiting.p (000 1.8)
   unfoldable pub readyWaiting : ℕ → Work → Work
   readyWaiting content w = run m content (wIndexWord m (wptrOf content) pointerS ready w)
 
+  -- the IF on status (000 1.8); none of the three is Stop (DECISIONS 26)
   unfoldable pub readyStatus : ℕ → ℕ → Work → Work
   readyStatus content status w =
       ifEq status enabling (wIndexWord m (wptrOf content) pointerS ready w)
       (ifEq status ready w (ifEq status waiting (readyWaiting content w) (refuse stop w)))
 
+  -- status is read at the process's Pointer.s (000 1.8)
   unfoldable pub readyContent : ℕ → Work → Work
   readyContent content w =
       readyStatus content (wordAt m (atWord (wptrOf content) pointerS) w)
       (loadWord m (atWord (wptrOf content) pointerS) w)
 
+  -- Request = ReadyRequest (000 1.8)
   unfoldable pub handleReadyRequest : ℕ → Work → Work
   handleReadyRequest hc w = readyContent (wordAt m (atWord portBase hc) w) (loadWord m (atWord portBase hc) w)
 
@@ -78,6 +84,7 @@ module _ (m : List ℕ) where
   unfoldable pub meetHeld : ℕ → Work → Work
   meetHeld c w = ifEq c eventChannel (eventMeets w) (receive m c (heldByte (reg (channelReg c) w)) w)
 
+  -- an `in` that finds something held (01, Links, clocks, slice; DECISIONS 29)
   unfoldable pub hardInputHeld : ℕ → Work → Work
   hardInputHeld c w = gotoSNP (meetHeld c (lower (channelReg c) heldBit (hardStart c w)))
 
@@ -87,6 +94,7 @@ module _ (m : List ℕ) where
       ifLt c 4 (gotoSNP (hardStart c w))
       (ifSet heldBit (reg (channelReg c) w) (hardInputHeld c w) (gotoSNP (hardStart c w)))
 
+  -- an `in` on a hard channel; a count of 0 does nothing (DECISIONS 28)
   unfoldable pub hardInput : ℕ → Work → Work
   hardInput c w = ifEq (reg areg w) 0 w (hardInputStart c w)
 
@@ -97,6 +105,7 @@ module _ (m : List ℕ) where
   saveRegsPendingSoftIO w =
       wIndexWord m (wptr w) pointerS (reg creg w) (saveIptr m (wIndexWord m (reg breg w) 0 (reg wdescReg w) w))
 
+  -- not ready: wait (000 1.10, Input and Output)
   unfoldable pub softWait : Work → Work
   softWait w = gotoSNP (saveRegsPendingSoftIO w)
 
@@ -111,10 +120,12 @@ module _ (m : List ℕ) where
       moveMessage procDesc
       (inputRegs (wordAt m (atWord (wptrOf procDesc) pointerS) w) (loadWord m (atWord (wptrOf procDesc) pointerS) w))
 
+  -- the IF on procDesc (000 1.10, Input)
   unfoldable pub softInput : ℕ → Work → Work
   softInput procDesc w =
       ifEq procDesc notProcess (softWait w) (inputReady procDesc (wIndexWord m (reg breg w) 0 notProcess w))
 
+  -- PROC Input (000 1.10); also input message (000 1.11)
   unfoldable pub input : Work → Work
   input w =
       ifLt (index (reg breg w)) linkChans (hardInput (index (reg breg w)) w)
@@ -129,23 +140,28 @@ module _ (m : List ℕ) where
   unfoldable pub outputEnabling : ℕ → Work → Work
   outputEnabling procDesc w = softWait (wIndexWord m (wptrOf procDesc) pointerS ready w)
 
+  -- destPtr = Waiting.p: the process runs last (000 1.10, Output)
   unfoldable pub outputWaiting : ℕ → Work → Work
   outputWaiting procDesc w = run m procDesc (outputEnabling procDesc w)
 
+  -- the IF on destPtr (000 1.10, Output)
   unfoldable pub outputTo : ℕ → ℕ → Work → Work
   outputTo procDesc destPtr w =
       ifEq destPtr enabling (outputEnabling procDesc w)
       (ifEq destPtr waiting (outputWaiting procDesc w)
       (ifEq destPtr ready (softWait w) (outputMessage procDesc destPtr w)))
 
+  -- destPtr is read at the partner's Pointer.s (000 1.10, Output)
   unfoldable pub outputReady : ℕ → Work → Work
   outputReady procDesc w =
       outputTo procDesc (wordAt m (atWord (wptrOf procDesc) pointerS) w)
       (loadWord m (atWord (wptrOf procDesc) pointerS) w)
 
+  -- the IF on procDesc (000 1.10, Output)
   unfoldable pub softOutput : ℕ → Work → Work
   softOutput procDesc w = ifEq procDesc notProcess (softWait w) (outputReady procDesc w)
 
+  -- PROC Output (000 1.10); also output message (000 1.11)
   unfoldable pub output : Work → Work
   output w =
       ifLt (index (reg breg w)) linkChans (hardOutput (index (reg breg w)) w)
@@ -157,9 +173,11 @@ module _ (m : List ℕ) where
   unfoldable pub outputLocal : ℕ → Work → Work
   outputLocal count w = output (put creg (wptr w) (put areg count (wIndexWord m (wptr w) 0 (reg areg w) w)))
 
+  -- output word (000 1.11)
   abbrev pub outword : Work → Work
   outword w = outputLocal 4 w
 
+  -- output byte (000 1.11)
   abbrev pub outbyte : Work → Work
   outbyte w = outputLocal 1 w
 
@@ -167,6 +185,7 @@ module _ (m : List ℕ) where
   unfoldable pub resetHard : ℕ → Work → Work
   resetHard c w = ifLt c linkChans (lower (channelReg c) 0x1F w) w
 
+  -- reset channel (000 1.11)
   unfoldable pub resetch : Work → Work
   resetch w =
       put areg (wordAt m (atWord (reg areg w) 0) w)
@@ -180,6 +199,7 @@ module _ (m : List ℕ) where
   unfoldable pub altwtState : Work → Work
   altwtState w = ifEq (reg areg w) ready w (wait m w)
 
+  -- alt wait (000 1.11); State.s is left in Areg (DECISIONS 10)
   unfoldable pub altwt : Work → Work
   altwt w = altwtState (rIndexWord m (wptr w) stateS areg (wIndexWord m (wptr w) 0 noneSelected w))
 
@@ -195,6 +215,7 @@ module _ (m : List ℕ) where
   unfoldable pub dissGuard : Work → Work
   dissGuard w = ifEq (reg breg w) 0 (put areg 0 w) (isThisSelectedProcess m w)
 
+  -- disable skip (000 1.11)
   unfoldable pub diss : Work → Work
   diss w = dropB (dissGuard w)
 
@@ -202,6 +223,7 @@ module _ (m : List ℕ) where
   unfoldable pub claimChannel : Work → Work
   claimChannel w = wIndexWord m (reg breg w) 0 (reg wdescReg w) w
 
+  -- an internal channel (000 1.11, enable channel)
   unfoldable pub enbcSoft : ℕ → Work → Work
   enbcSoft content w =
       ifEq content notProcess (claimChannel w) (ifEq content (reg wdescReg w) w (stateReady w))
@@ -211,14 +233,17 @@ module _ (m : List ℕ) where
   enbcHard c w =
       ifSet heldBit (reg (channelReg c) w) (stateReady w) (claimChannel (raise (channelReg c) enabledBit w))
 
+  -- the IF on chanNum (000 1.11, enable channel)
   unfoldable pub enbcChannel : Work → Work
   enbcChannel w =
       ifLt (index (reg breg w)) linkChans (enbcHard (index (reg breg w)) w)
       (enbcSoft (wordAt m (atWord (reg breg w) 0) w) (loadWord m (atWord (reg breg w) 0) w))
 
+  -- only where Areg is not FALSE (000 1.11; DECISIONS 13)
   unfoldable pub enbcGuard : Work → Work
   enbcGuard w = ifEq (reg areg w) 0 w (enbcChannel w)
 
+  -- enable channel (000 1.11)
   unfoldable pub enbc : Work → Work
   enbc w = dropB (enbcGuard w)
 
@@ -226,6 +251,7 @@ module _ (m : List ℕ) where
   unfoldable pub disclaim : Work → Work
   disclaim w = put areg 0 (wIndexWord m (reg creg w) 0 notProcess w)
 
+  -- an internal channel (000 1.11, disable channel)
   unfoldable pub discSoft : Work → Work
   discSoft w =
       ifEq (reg breg w) notProcess (put areg 0 w)
@@ -235,14 +261,17 @@ module _ (m : List ℕ) where
   unfoldable pub discAnswer : ℕ → Work → Work
   discAnswer c w = ifSet heldBit (reg (channelReg c) w) (isThisSelectedProcess m w) (put areg 0 w)
 
+  -- a hard channel (000 1.11, disable channel; DECISIONS 30)
   unfoldable pub discHard : ℕ → Work → Work
   discHard c w =
       discAnswer c (lower (channelReg c) (enabledBit + readyRequest) (wIndexWord m (reg creg w) 0 notProcess w))
 
+  -- the IF on chanNum (000 1.11, disable channel)
   unfoldable pub discChannel : Work → Work
   discChannel w =
       ifLt (index (reg creg w)) linkChans (discHard (index (reg creg w)) w)
       (discSoft (rIndexWord m (reg creg w) 0 breg w))
 
+  -- disable channel (000 1.11)
   unfoldable pub disc : Work → Work
   disc w = ifEq (reg breg w) 0 (put areg 0 w) (discChannel w)

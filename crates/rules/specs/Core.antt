@@ -7,6 +7,7 @@ use Rattle.rules.specs.Tests.{pick, ifSet}
 use Rattle.rules.specs.Words.{range, restoreToRange, overflows, setBits, clearBits}
 use Rattle.rules.specs.declared.Core.{Core}
 
+-- the seven registers, in 01's order (01, Memory and registers)
 abbrev pub core : ℕ → ℕ → ℕ → ℕ → ℕ → ℕ → ℕ → Core
 core iptr wdesc a b c oreg status =
     record { iptr = iptr; wdesc = wdesc; a = a; b = b; c = c; oreg = oreg; status = status }
@@ -20,18 +21,23 @@ withIptr x s = core x (s .wdesc) (s .a) (s .b) (s .c) (s .oreg) (s .status)
 abbrev pub withWdesc : ℕ → Core → Core
 withWdesc x s = core (s .iptr) x (s .a) (s .b) (s .c) (s .oreg) (s .status)
 
+-- Areg
 abbrev pub withA : ℕ → Core → Core
 withA x s = core (s .iptr) (s .wdesc) x (s .b) (s .c) (s .oreg) (s .status)
 
+-- Breg
 abbrev pub withB : ℕ → Core → Core
 withB x s = core (s .iptr) (s .wdesc) (s .a) x (s .c) (s .oreg) (s .status)
 
+-- Creg
 abbrev pub withC : ℕ → Core → Core
 withC x s = core (s .iptr) (s .wdesc) (s .a) (s .b) x (s .oreg) (s .status)
 
+-- Oreg
 abbrev pub withOreg : ℕ → Core → Core
 withOreg x s = core (s .iptr) (s .wdesc) (s .a) (s .b) (s .c) x (s .status)
 
+-- StatusReg
 abbrev pub withStatus : ℕ → Core → Core
 withStatus x s = core (s .iptr) (s .wdesc) (s .a) (s .b) (s .c) (s .oreg) x
 
@@ -40,6 +46,7 @@ withStatus x s = core (s .iptr) (s .wdesc) (s .a) (s .b) (s .c) (s .oreg) x
 abbrev pub wptrOf : ℕ → ℕ
 wptrOf wdesc = bitAnd wdesc (range - 2)
 
+-- Priority := WdescReg BITAND 1 (000 1.3)
 abbrev pub priorityOf : ℕ → ℕ
 priorityOf wdesc = bitAnd wdesc 1
 
@@ -66,12 +73,15 @@ result x s = core (s .iptr) (s .wdesc) x (s .c) (s .c) (s .oreg) (s .status)
 abbrev pub errorFlag : ℕ
 errorFlag = 2 ^ 31
 
+-- HaltOnErrorBit, bit 7 (000 1.2)
 abbrev pub haltOnErrorBit : ℕ
 haltOnErrorBit = 2 ^ 7
 
+-- GotoSNPBit, bit 1 (000 1.2)
 abbrev pub gotoSNPBit : ℕ
 gotoSNPBit = 2 ^ 1
 
+-- MoveBit, bit 3 (000 1.2)
 abbrev pub moveBit : ℕ
 moveBit = 2 ^ 3
 

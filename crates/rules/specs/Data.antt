@@ -54,6 +54,7 @@ module _ (m : List ℕ) where
       (wIndexWord m (wptr w) (minus 3) (reg areg w)
       (wIndexWord m (wptr w) (minus 2) (reg breg w) (wIndexWord m (wptr w) (minus 1) (reg creg w) w)))
 
+  -- call (000 1.11)
   unfoldable pub call : Work → Work
   call w = entered (callFrame w)
 
@@ -80,9 +81,11 @@ module _ (m : List ℕ) where
       (wIndexWord m (reg areg w) 1 (reg (bptrReg level) w)
       (wIndexWord m (reg areg w) 0 (reg (fptrReg level) w) w))
 
+  -- save high priority queue registers (000 1.11)
   abbrev pub saveh : Work → Work
   saveh w = saveQueue 0 w
 
+  -- save low priority queue registers (000 1.11)
   abbrev pub savel : Work → Work
   savel w = saveQueue 1 w
 

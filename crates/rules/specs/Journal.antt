@@ -15,6 +15,7 @@ recordLength pairs = registers + 1 + 2 * pairs
 abbrev pub lastWord : ℕ → ℕ
 lastWord pairs = pairs
 
+-- the number of pairs that the last word tells (01, The journal)
 abbrev pub pairsTold : ℕ → ℕ
 pairsTold last = last
 
@@ -36,9 +37,11 @@ frameBad size depth used = ltb size used || ltb used (recordLength 0 * depth)
 unfoldable pub lastPairs : List ℕ → ℕ → ℕ
 lastPairs j used = pairsTold (getD j (used - 1) 0)
 
+-- where it starts (01, The journal)
 unfoldable pub lastStart : List ℕ → ℕ → ℕ
 lastStart j used = used - recordLength (lastPairs j used)
 
+-- its registers (01, The journal)
 unfoldable pub lastRegs : List ℕ → ℕ → List ℕ
 lastRegs j used = take registers (drop (used - recordLength 0) j)
 

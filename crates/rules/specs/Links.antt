@@ -17,6 +17,7 @@ ifMoving c w x y = ifSet activeBit (reg (channelReg c) w) (ifEq (reg (countReg c
 unfoldable pub transferEnds : ℕ → Work → Work
 transferEnds c w = raise (channelReg c) runRequest (lower (channelReg c) activeBit w)
 
+-- at 0 active is cleared and the run request set (01, Links, clocks, slice)
 unfoldable pub endAtZero : ℕ → Work → Work
 endAtZero c w = ifEq (reg (countReg c) w) 0 (transferEnds c w) w
 
@@ -34,6 +35,7 @@ noticeHeld c w =
     (raise (channelReg c) readyRequest (lower (channelReg c) enabledBit w))
     w
 
+-- give to a link that isn't moving holds the byte (01, Links, clocks, slice)
 unfoldable pub hold : ℕ → ℕ → Work → Work
 hold c byte w =
     noticeHeld c (put (channelReg c) (setBits heldBit (withHeldByte byte (reg (channelReg c) w))) w)
@@ -46,6 +48,7 @@ eventMeets w = transferEnds eventChannel (put (countReg eventChannel) 0 w)
 unfoldable pub eventHolds : Work → Work
 eventHolds w = noticeHeld eventChannel (raise (channelReg eventChannel) heldBit w)
 
+-- event (01, Links, clocks, slice; 01, Answers by number, 8)
 unfoldable pub event : Work → Work
 event w =
     ifMoving eventChannel w (eventMeets w)
@@ -56,15 +59,18 @@ event w =
 unfoldable pub tickSlice : Work → Work
 tickSlice w = ifLt (reg sliceReg w) sliceLength (put sliceReg (reg sliceReg w + 1) w) w
 
+-- a prescaler of 63 or more becomes 0 and the low clock grows (01, Links, clocks, slice)
 unfoldable pub tickPrescaler : Work → Work
 tickPrescaler w =
     ifLe 63 (reg prescalerReg w)
     (put (clockReg 1) (atByte (reg (clockReg 1) w) 1) (put prescalerReg 0 w))
     (put prescalerReg (reg prescalerReg w + 1) w)
 
+-- the high clock grows by one, then prescaler and slice (01, Links, clocks, slice)
 unfoldable pub tickClocks : Work → Work
 tickClocks w = tickSlice (tickPrescaler (put (clockReg 0) (atByte (reg (clockReg 0) w) 1) w))
 
+-- tick does nothing while clocks don't run (01, Links, clocks, slice)
 unfoldable pub tick : Work → Work
 tick w = ifSet clocksRun (reg flagsReg w) (tickClocks w) w
 
@@ -73,9 +79,11 @@ module _ (m : List ℕ) where
   unfoldable pub taken : ℕ → Work → ℕ
   taken c w = byteAt m (reg (pointerReg c) w) w
 
+  -- take hands over the byte at the pointer (01, Links, clocks, slice)
   unfoldable pub takeByte : ℕ → Work → Work
   takeByte c w = advance c (loadByte m (reg (pointerReg c) w) w)
 
+  -- take (01, Links, clocks, slice; 01, Answers by number, 8)
   unfoldable pub take : ℕ → Work → Work
   take c w = ifMoving c w (takeByte c w) (refuse notReady w)
 
@@ -83,6 +91,7 @@ module _ (m : List ℕ) where
   unfoldable pub receive : ℕ → ℕ → Work → Work
   receive c byte w = advance c (storeByte m (reg (pointerReg c) w) byte w)
 
+  -- give (01, Links, clocks, slice; 01, Answers by number, 8)
   unfoldable pub give : ℕ → ℕ → Work → Work
   give c byte w =
       ifMoving c w (receive c byte w)

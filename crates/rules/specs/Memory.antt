@@ -16,6 +16,7 @@ pub data Store : Type 0 where
 unfoldable pub byteIn : List ℕ → ℕ → ℕ
 byteIn m o = byteOf (o % 4) (getD m (o / 4) 0)
 
+-- the memory with a byte stored at a place
 unfoldable pub setByteIn : List ℕ → ℕ → ℕ → List ℕ
 setByteIn m o b = set m (o / 4) (withByte (o % 4) b (getD m (o / 4) 0))
 
@@ -34,6 +35,7 @@ unfoldable pub storing : List ℕ → Store → List ℕ
 storing m (word i v) = set m i v
 storing m (bytes s d n) = pick (within (length m) s d n) (moved m s d n) m
 
+-- the memory after a list of stores, first to last (DECISIONS 44)
 unfoldable pub stores : List ℕ → List Store → List ℕ
 stores m [] = m
 stores m (s ∷ ss) = stores (storing m s) ss
@@ -49,6 +51,7 @@ module _ (size : ℕ) where
   touches i (word k v) = eqb k i
   touches i (bytes s d n) = within size s d n && covers i d n
 
+  -- some store of a list touches word i
   unfoldable pub hit : ℕ → List Store → Bool
   hit i [] = false
   hit i (s ∷ ss) = pick (touches i s) true (hit i ss)

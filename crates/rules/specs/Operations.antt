@@ -22,15 +22,19 @@ Action = List ℕ → Work → Work
 abbrev pub pure : (Core → Core) → Action
 pure f m w = onCore f w
 
+-- the same for operations that can Stop (DECISIONS 26)
 abbrev pub pureOrStop : (Core → Attempt) → Action
 pureOrStop f m w = onAttempt f w
 
+-- the same for operations on queue pointers and clocks
 abbrev pub pureBoth : (Core → System → Both) → Action
 pureBoth f m w = onBoth f w
 
+-- load timer (000 1.11)
 abbrev pub loadTimer : Action
 loadTimer m w = putCore (stack.ldtimer (coreOf (w .regs)) (systemOf (w .regs))) w
 
+-- 000 1.11, Operations: code and meaning
 unfoldable pub operations : List (ℕ × Action)
 operations =
     (0x00, pure stack.rev)
@@ -124,6 +128,7 @@ unlistedAction m w = refuse unlisted w
 unfoldable pub operate : ℕ → Action
 operate code m w = look operations code unlistedAction m w
 
+-- operate (000 1.11)
 abbrev pub opr : Action
 opr m w = operate (reg oreg w) m w
 
@@ -146,5 +151,6 @@ functions =
     ∷ (0xF, opr)
     ∷ []
 
+-- a function by its number (000 1.11)
 unfoldable pub function : ℕ → Action
 function code m w = look functions code unlistedAction m w

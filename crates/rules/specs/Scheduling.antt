@@ -16,6 +16,7 @@ use Rattle.rules.specs.Work.{Work, reg, put, raise, lower, wptr, priorit
 abbrev pub notProcess : ℕ
 notProcess = minIntWord
 
+-- NotProcess.p BITOR 1 (000 1.8, SaveRegisters)
 abbrev pub noLowProcess : ℕ
 noLowProcess = bitOr notProcess 1
 
@@ -23,9 +24,11 @@ noLowProcess = bitOr notProcess 1
 abbrev pub enabling : ℕ
 enabling = minIntWord + 1
 
+-- Waiting.p (000 1.4)
 abbrev pub waiting : ℕ
 waiting = minIntWord + 2
 
+-- Ready.p (000 1.4)
 abbrev pub ready : ℕ
 ready = minIntWord + 3
 
@@ -33,6 +36,7 @@ ready = minIntWord + 3
 abbrev pub timeSet : ℕ
 timeSet = minIntWord + 1
 
+-- TimeNotSet.p (000 1.4)
 abbrev pub timeNotSet : ℕ
 timeNotSet = minIntWord + 2
 
@@ -46,18 +50,23 @@ noneSelected = minus 1
 abbrev pub iptrS : ℕ
 iptrS = minus 1
 
+-- Link.s (000 1.3)
 abbrev pub linkS : ℕ
 linkS = minus 2
 
+-- State.s (000 1.3)
 abbrev pub stateS : ℕ
 stateS = minus 3
 
+-- Pointer.s (000 1.3)
 abbrev pub pointerS : ℕ
 pointerS = minus 3
 
+-- TLink.s (000 1.3)
 abbrev pub tlinkS : ℕ
 tlinkS = minus 4
 
+-- Time.s (000 1.3)
 abbrev pub timeS : ℕ
 timeS = minus 5
 
@@ -67,15 +76,19 @@ timeS = minus 5
 abbrev pub portBase : ℕ
 portBase = minIntWord
 
+-- TimerBase, word 9 (01, Memory and registers; DECISIONS 40)
 abbrev pub timerBase : ℕ
 timerBase = minIntWord + 4 * 9
 
+-- SaveBase, word 11 (01, Memory and registers; DECISIONS 40)
 abbrev pub saveBase : ℕ
 saveBase = minIntWord + 4 * 11
 
+-- the number of the word at MemStart (01, Memory and registers)
 abbrev pub memStartWord : ℕ
 memStartWord = 18
 
+-- MemStart (01, Memory and registers)
 abbrev pub memStart : ℕ
 memStart = minIntWord + 4 * memStartWord
 
@@ -83,21 +96,27 @@ memStart = minIntWord + 4 * memStartWord
 abbrev pub wdescIntSave : ℕ
 wdescIntSave = 0
 
+-- IptrIntSave (000 1.2; 01, Memory and registers)
 abbrev pub iptrIntSave : ℕ
 iptrIntSave = 1
 
+-- AregIntSave
 abbrev pub aregIntSave : ℕ
 aregIntSave = 2
 
+-- BregIntSave
 abbrev pub bregIntSave : ℕ
 bregIntSave = 3
 
+-- CregIntSave
 abbrev pub cregIntSave : ℕ
 cregIntSave = 4
 
+-- STATUSIntSave
 abbrev pub statusIntSave : ℕ
 statusIntSave = 5
 
+-- EregIntSave
 abbrev pub eregIntSave : ℕ
 eregIntSave = 6
 
@@ -106,6 +125,7 @@ eregIntSave = 6
 unfoldable pub setIdle : Work → Work
 setIdle w = raise flagsReg idleFlag w
 
+-- idle is cleared when a process starts or resumes (01, One step)
 unfoldable pub clearIdle : Work → Work
 clearIdle w = lower flagsReg idleFlag w
 
@@ -121,6 +141,7 @@ resumed w = ifEq (wptr w) notProcess w (clearIdle w)
 abbrev pub keptStatus : ℕ
 keptStatus = 0x8000_00FC
 
+-- StatusReg := StatusReg BITAND the bits that are kept (000 1.10, Run)
 unfoldable pub maskStatus : Work → Work
 maskStatus w = put statusReg (bitAnd (reg statusReg w) keptStatus) w
 
@@ -138,6 +159,7 @@ module _ (m : List ℕ) where
   linkBehind procPtr fptr bptr w =
       ifEq (reg fptr w) notProcess (put fptr procPtr w) (wIndexWord m (reg bptr w) linkS procPtr w)
 
+  -- PROC Enqueue (000 1.10)
   unfoldable pub enqueue : ℕ → ℕ → ℕ → Work → Work
   enqueue procPtr fptr bptr w = put bptr procPtr (linkBehind procPtr fptr bptr w)
 
@@ -147,6 +169,7 @@ module _ (m : List ℕ) where
       ifEq (reg (fptrReg level) w) (reg (bptrReg level) w) (put (fptrReg level) notProcess w)
       (rIndexWord m (reg (fptrReg level) w) linkS (fptrReg level) w)
 
+  -- PROC Dequeue (000 1.10); slice becomes 0 (DECISIONS 24)
   unfoldable pub dequeue : ℕ → Work → Work
   dequeue level w =
       unlinkFront level (startSlice level (put wdescReg (bitOr (reg (fptrReg level) w) level) w))
@@ -159,6 +182,7 @@ module _ (m : List ℕ) where
   unfoldable pub save : ℕ → ℕ → Work → Work
   save place k w = wIndexWord m saveBase place (reg k w) w
 
+  -- the IF on WdescReg (000 1.8, SaveRegisters)
   unfoldable pub saveRest : Work → Work
   saveRest w =
       ifEq (reg wdescReg w) noLowProcess w
@@ -168,6 +192,7 @@ module _ (m : List ℕ) where
   unfoldable pub saveEreg : ℕ → Work → Work
   saveEreg status w = ifSet moveBit status (wIndexWord m saveBase eregIntSave 0 w) w
 
+  -- PROC SaveRegisters (000 1.8)
   unfoldable pub saveRegisters : ℕ → Work → Work
   saveRegisters status w = saveEreg status (saveRest (save wdescIntSave wdescReg w))
 
@@ -175,11 +200,13 @@ module _ (m : List ℕ) where
   unfoldable pub restore : ℕ → ℕ → Work → Work
   restore place k w = rIndexWord m saveBase place k w
 
+  -- the IF on WdescReg (000 1.8, RestoreRegisters; DECISIONS 22)
   unfoldable pub restoreRest : Work → Work
   restoreRest w =
       ifEq (reg wdescReg w) noLowProcess w
       (restore statusIntSave statusReg (restore cregIntSave creg (restore bregIntSave breg (restore aregIntSave areg (restore iptrIntSave iptrReg w)))))
 
+  -- PROC RestoreRegisters (000 1.8)
   unfoldable pub restoreRegisters : Work → Work
   restoreRegisters w = resumed (restoreRest (restore wdescIntSave wdescReg w))
 
@@ -188,14 +215,17 @@ module _ (m : List ℕ) where
   interrupt procDesc w =
       activateProcess (maskStatus (put wdescReg procDesc (saveRegisters (reg statusReg w) w)))
 
+  -- procPriority = 1 at low priority (000 1.10, Run)
   unfoldable pub runLow : ℕ → Work → Work
   runLow procDesc w =
       ifEq (wptr w) notProcess (activateProcess (put wdescReg procDesc w))
       (enqueue (wptrOf procDesc) (fptrReg 1) (bptrReg 1) w)
 
+  -- Priority = 1 (000 1.10, Run)
   unfoldable pub runOverLow : ℕ → Work → Work
   runOverLow procDesc w = ifEq (priorityOf procDesc) 0 (interrupt procDesc w) (runLow procDesc w)
 
+  -- PROC Run (000 1.10)
   unfoldable pub run : ℕ → Work → Work
   run procDesc w =
       ifEq (priority w) 0
@@ -206,22 +236,28 @@ module _ (m : List ℕ) where
   unfoldable pub startQueued : ℕ → Work → Work
   startQueued level w = activateProcess (dequeue level w)
 
+  -- no interrupted process: a low one, or none (000 1.10, StartNextProcess)
   unfoldable pub startLow : Work → Work
   startLow w = ifEq (reg (fptrReg 1) w) notProcess (setIdle w) (startQueued 1 w)
 
+  -- the IF after RestoreRegisters (000 1.10, StartNextProcess)
   unfoldable pub resumeOrStart : Work → Work
   resumeOrStart w = ifEq (wptr w) notProcess (startLow w) w
 
+  -- Priority = 0 (000 1.10, StartNextProcess)
   unfoldable pub nextHigh : Work → Work
   nextHigh w = ifEq (reg (fptrReg 0) w) notProcess (resumeOrStart (restoreRegisters w)) (startQueued 0 w)
 
+  -- Priority = 1 (000 1.10, StartNextProcess)
   unfoldable pub nextLow : Work → Work
   nextLow w =
       ifEq (reg (fptrReg 1) w) notProcess (setIdle (put wdescReg noLowProcess w)) (startQueued 1 w)
 
+  -- the IF on Priority (000 1.10, StartNextProcess)
   unfoldable pub nextProcess : Work → Work
   nextProcess w = ifEq (priority w) 0 (nextHigh w) (nextLow w)
 
+  -- PROC StartNextProcess (000 1.10)
   unfoldable pub startNextProcess : Work → Work
   startNextProcess w = nextProcess (lower statusReg gotoSNPBit w)
 
@@ -245,12 +281,15 @@ module _ (m : List ℕ) where
   unfoldable pub sliceOut : Work → Work
   sliceOut w = gotoSNP (run (reg wdescReg w) (saveIptr w))
 
+  -- slice is 1,024 or more (01, Links, clocks, slice)
   unfoldable pub sliceIfLong : Work → Work
   sliceIfLong w = ifLe sliceLength (reg sliceReg w) (sliceOut w) w
 
+  -- clocks run (01, Links, clocks, slice)
   unfoldable pub sliceIfRunning : Work → Work
   sliceIfRunning w = ifSet clocksRun (reg flagsReg w) (sliceIfLong w) w
 
+  -- TimeSlice (000 1.9): a low process (DECISIONS 24)
   unfoldable pub timeSlice : Work → Work
   timeSlice w = ifEq (priority w) 0 w (sliceIfRunning w)
 
@@ -268,12 +307,15 @@ module _ (m : List ℕ) where
   unfoldable pub endLast : Work → Work
   endLast w = put wdescReg (bitOr (reg areg w) (priority w)) (rIndexWord m (reg areg w) 0 iptrReg w)
 
+  -- temp <> 1 (000 1.11, end process); the count wraps (DECISIONS 7)
   unfoldable pub endOne : ℕ → Work → Work
   endOne count w = gotoSNP (wIndexWord m (reg areg w) 1 (atByte count (minus 1)) w)
 
+  -- the IF on temp (000 1.11, end process)
   unfoldable pub endCounted : ℕ → Work → Work
   endCounted count w = ifEq count 1 (endLast w) (endOne count w)
 
+  -- end process (000 1.11)
   unfoldable pub endp : Work → Work
   endp w = endCounted (wordAt m (atWord (reg areg w) 1) w) (loadWord m (atWord (reg areg w) 1) w)
 
@@ -290,17 +332,22 @@ module _ (m : List ℕ) where
   loopBack w =
       put iptrReg (atByte (reg iptrReg w) (range - reg areg w)) (wIndexWord m (reg breg w) 0 (reg creg w) w)
 
+  -- Creg := the index; Creg := Creg + 1 (000 1.11, loop end)
   unfoldable pub countUp : Work → Work
   countUp w = addToC 1 (rIndexWord m (reg breg w) 0 creg w)
 
+  -- the IF on Creg (000 1.11, loop end)
   unfoldable pub loopOn : Work → Work
   loopOn w = pick (positive (reg creg w)) (loopBack (countUp w)) w
 
+  -- Creg := the count; Creg := Creg - 1 (000 1.11, loop end)
   unfoldable pub countDown : Work → Work
   countDown w = addToC (minus 1) (rIndexWord m (reg breg w) 1 creg w)
 
+  -- WIndexWord (Breg, 1, Creg) (000 1.11, loop end)
   unfoldable pub storeCount : Work → Work
   storeCount w = wIndexWord m (reg breg w) 1 (reg creg w) w
 
+  -- loop end (000 1.11; DECISIONS 41)
   unfoldable pub lend : Work → Work
   lend w = timeSlice (loopOn (storeCount (countDown w)))

@@ -49,6 +49,7 @@ ajw s = moveWorkspace (atWord (wptrOf (s .wdesc)) (s .oreg)) s
 abbrev pub pfix : Core → Core
 pfix s = withOreg (prefixed (s .oreg)) s
 
+-- negative prefix (000 1.11; DECISIONS 2)
 abbrev pub nfix : Core → Core
 nfix s = withOreg (negativePrefixed (s .oreg)) s
 
@@ -96,9 +97,11 @@ seterr s = setErrorFlag s
 abbrev pub clrhalterr : Core → Core
 clrhalterr s = withStatus (clearBits haltOnErrorBit (s .status)) s
 
+-- set halt-on-error (000 1.11)
 abbrev pub sethalterr : Core → Core
 sethalterr s = withStatus (setBits haltOnErrorBit (s .status)) s
 
+-- test halt-on-error (000 1.11)
 unfoldable pub testhalterr : Core → Core
 testhalterr s = push (ifSet haltOnErrorBit (s .status) 1 0) s
 
@@ -108,6 +111,7 @@ testhalterr s = push (ifSet haltOnErrorBit (s .status) 1 0) s
 abbrev pub bsub : Core → Core
 bsub s = result (atByte (s .a) (s .b)) s
 
+-- word subscript (000 1.11)
 abbrev pub wsub : Core → Core
 wsub s = result (atWord (s .a) (s .b)) s
 
@@ -124,9 +128,11 @@ wcnt s = withA (restoreToRange (shrZ (sign (s .a)) 4)) (withB (bitAnd (s .a) 3) 
 abbrev pub and : Core → Core
 and s = result (bitAnd (s .a) (s .b)) s
 
+-- or (000 1.11)
 abbrev pub or : Core → Core
 or s = result (bitOr (s .b) (s .a)) s
 
+-- exclusive or (000 1.11)
 abbrev pub xor : Core → Core
 xor s = result (bitXor (s .b) (s .a)) s
 
@@ -134,9 +140,11 @@ xor s = result (bitXor (s .b) (s .a)) s
 abbrev pub bitnot : Core → Core
 bitnot s = withA (range - 1 - s .a) s
 
+-- an IF of 000 with a true branch
 abbrev pub goes : Core → Attempt
 goes s = record { core = s; stops = false }
 
+-- an IF of 000 with none (01, Answers by number, 11)
 abbrev pub halts : Core → Attempt
 halts s = record { core = s; stops = true }
 
@@ -144,6 +152,7 @@ halts s = record { core = s; stops = true }
 unfoldable pub shl : Core → Attempt
 shl s = ifLt 32 (s .a) (halts s) (goes (result (s .b * 2 ^ s .a % range) s))
 
+-- shift right (000 1.11; DECISIONS 6)
 unfoldable pub shr : Core → Attempt
 shr s = ifLt 32 (s .a) (halts s) (goes (result (s .b / 2 ^ s .a) s))
 
@@ -153,6 +162,7 @@ shr s = ifLt 32 (s .a) (halts s) (goes (result (s .b / 2 ^ s .a) s))
 abbrev pub checked : ℤ → Core → Core
 checked z s = overflowCheck z (withB (s .c) s)
 
+-- add (000 1.11)
 abbrev pub add : Core → Core
 add s = checked (sign (s .b) +ℤ sign (s .a)) s
 
@@ -174,6 +184,7 @@ div s =
     pick (undivided s) (setErrorFlag (withB (s .c) s))
     (result (restoreToRange (quotZ (sign (s .b)) (sign (s .a)))) s)
 
+-- remainder (000 1.11; DECISIONS 8)
 unfoldable pub rem : Core → Core
 rem s =
     pick (undivided s) (setErrorFlag (withB (s .c) s))
@@ -189,9 +200,11 @@ gt s = result (truth (ltZ (sign (s .a)) (sign (s .b)))) s
 abbrev pub diff : Core → Core
 diff s = result (restoreToRange (sign (s .b) -ℤ sign (s .a))) s
 
+-- sum (000 1.11)
 abbrev pub sum : Core → Core
 sum s = result (restoreToRange (sign (s .b) +ℤ sign (s .a))) s
 
+-- product (000 1.11)
 abbrev pub prod : Core → Core
 prod s = result (s .b * s .a % range) s
 
@@ -234,6 +247,7 @@ carryIn s = bitAnd (s .c) 1
 abbrev pub ladd : Core → Core
 ladd s = overflowCheck (sign (s .b) +ℤ sign (s .a) +ℤ pos (carryIn s)) s
 
+-- long subtract (000 1.11)
 abbrev pub lsub : Core → Core
 lsub s = overflowCheck (sign (s .b) -ℤ sign (s .a) -ℤ pos (carryIn s)) s
 
@@ -269,6 +283,7 @@ normalised places s =
     withA (double (s .b) (s .a) * 2 ^ places % range)
     (withB (double (s .b) (s .a) * 2 ^ places / range) (withC places s))
 
+-- normalise (000 1.11)
 unfoldable pub norm : Core → Core
 norm s =
     ifEq (double (s .b) (s .a)) 0 (withC 64 s)
@@ -282,6 +297,7 @@ lshl s =
     (withA (double (s .c) (s .b) * 2 ^ s .a % range)
     (withB (double (s .c) (s .b) * 2 ^ s .a / range % range) s)))
 
+-- long shift right (000 1.11; DECISIONS 5, 6)
 unfoldable pub lshr : Core → Attempt
 lshr s =
     ifLt 64 (s .a) (halts s)
@@ -300,6 +316,7 @@ abbrev pub system : ℕ → ℕ → ℕ → ℕ → ℕ → ℕ → ℕ → ℕ 
 system f0 b0 f1 b1 c0 c1 p f =
     record { front0 = f0; back0 = b0; front1 = f1; back1 = b1; clock0 = c0; clock1 = c1; prescaler = p; flags = f }
 
+-- Core and System together
 abbrev pub both : Core → System → Both
 both s y = record { core = s; system = y }
 
@@ -313,16 +330,19 @@ sthf s y =
     both (pop s)
     (system (s .a) (y .back0) (y .front1) (y .back1) (y .clock0) (y .clock1) (y .prescaler) (y .flags))
 
+-- store high priority back pointer (000 1.11)
 abbrev pub sthb : Core → System → Both
 sthb s y =
     both (pop s)
     (system (y .front0) (s .a) (y .front1) (y .back1) (y .clock0) (y .clock1) (y .prescaler) (y .flags))
 
+-- store low priority front pointer (000 1.11)
 abbrev pub stlf : Core → System → Both
 stlf s y =
     both (pop s)
     (system (y .front0) (y .back0) (s .a) (y .back1) (y .clock0) (y .clock1) (y .prescaler) (y .flags))
 
+-- store low priority back pointer (000 1.11)
 abbrev pub stlb : Core → System → Both
 stlb s y =
     both (pop s)

@@ -27,6 +27,7 @@ use Rattle.rules.specs.Calls.{codeWord, freshWord, freshMemory, freshReg
 abbrev pub Settings : Type 0
 Settings = List (ℕ × ℕ)
 
+-- a list with some of its words set
 unfoldable pub with-settings : List ℕ → Settings → List ℕ
 with-settings l [] = l
 with-settings l (s ∷ ss) = with-settings (set l (s .0) (s .1)) ss
@@ -51,12 +52,14 @@ registersOf (k ∷ ks) s = getD (s .0) k 0 ∷ registersOf ks s
 pub data Row : Type 0 where
   row : List ℕ → List ℕ → Row
 
+-- two lists of numbers are equal
 unfoldable pub same : List ℕ → List ℕ → Bool
 same [] [] = true
 same (x ∷ xs) (y ∷ ys) = eqb x y && same xs ys
 same [] (y ∷ ys) = false
 same (x ∷ xs) [] = false
 
+-- every row of a table holds
 unfoldable pub every : List Row → Bool
 every [] = true
 every (row l r ∷ rows) = same l r && every rows
@@ -65,6 +68,7 @@ every (row l r ∷ rows) = same l r && every rows
 abbrev pub word40 : ℕ
 word40 = 0x8000_00A0
 
+-- 01, Numbers at the edges
 unfoldable pub starred : List Row
 starred =
     -- 27 25 44 loads #754; 60 4F loads -1; 61 41 loads -31; 27 2F 2F 2F 2F 2F 6F 40 loads #80000000

@@ -16,6 +16,7 @@ use Rattle.rules.specs.Operations.{function}
 unfoldable pub haltIfAsked : Work → Work
 haltIfAsked w = ifSet haltOnErrorBit (reg statusReg w) (raise flagsReg haltedFlag w) w
 
+-- what the error flag was before the step decides (01, One step; DECISIONS 18)
 unfoldable pub haltOnError : ℕ → Work → Work
 haltOnError before w =
     ifSet errorFlag before w (ifSet errorFlag (reg statusReg w) (haltIfAsked w) w)
@@ -29,6 +30,7 @@ module _ (m : List ℕ) where
   unfoldable pub execute : ℕ → Work → Work
   execute code w = actOnSNP m (put oreg 0 (function code m w))
 
+  -- prefixes change only Iptr and Oreg (01, One step)
   unfoldable pub decode : ℕ → Work → Work
   decode code w = ifEq code 0x2 (onCore pfix w) (ifEq code 0x6 (onCore nfix w) (execute code w))
 
@@ -38,6 +40,7 @@ module _ (m : List ℕ) where
       decode (byteAt m (reg iptrReg w) w / 2 ^ 4)
       (fetched (byteAt m (reg iptrReg w) w) (fetchByte m (reg iptrReg w) w))
 
+  -- 7 Idle (01, Answers by number; DECISIONS 19)
   unfoldable pub instructionUnlessIdle : Work → Work
   instructionUnlessIdle w = ifSet idleFlag (reg flagsReg w) (refuse idle w) (instruction w)
 
@@ -56,5 +59,6 @@ module _ (m : List ℕ) where
   unfoldable pub choose : Work → Work
   choose w = ifEq (reg oreg w) 0 (channelsFirst w) (instructionUnlessIdle w)
 
+  -- 6 Halted, then (a), (b) or (c), then halting (01, One step)
   unfoldable pub step : Work → Work
   step w = ifSet haltedFlag (reg flagsReg w) (refuse halted w) (haltOnError (reg statusReg w) (choose w))

@@ -1,4 +1,4 @@
--- Tests inside definitions. They stay shut in a goal; the laws of the crate `laws` decide them by what a branch of the code told.
+-- Tests inside definitions. They stay shut in a goal; the laws of proofs/ decide them by what a branch of the code told.
 use Prim.Native.Nat.{ℕ}
 use mathlib.Core.Bool.{Bool, true, false}
 use mathlib.Core.List.{List, [], _∷_}

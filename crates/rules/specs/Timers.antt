@@ -16,6 +16,7 @@ unfoldable pub timerDue : ℕ → Work → Bool
 timerDue queue w =
     ifSet (tEnabled queue) (reg flagsReg w) (not (later (reg (tnextReg queue) w) (reg (clockReg queue) w))) false
 
+-- timer 0, then timer 1 (01, One step (b); DECISIONS 16)
 unfoldable pub timerReady : ℕ → Work → Bool
 timerReady queue w = ifEq queue 0 (timerDue 0 w) (ifEq (priority w) 0 false (timerDue 1 w))
 
@@ -42,10 +43,12 @@ module _ (m : List ℕ) where
   unfoldable pub timedOut : ℕ → ℕ → Work → Work
   timedOut queue front w = run m (bitOr front queue) (wIndexWord m front pointerS ready w)
 
+  -- the IF on status (000 1.8); neither value is Stop (DECISIONS 26)
   unfoldable pub timerStatus : ℕ → ℕ → ℕ → Work → Work
   timerStatus queue front status w =
       ifEq status ready w (ifEq status waiting (timedOut queue front w) (refuse stop w))
 
+  -- status is read at the front process's Pointer.s (000 1.8)
   unfoldable pub timerWake : ℕ → ℕ → Work → Work
   timerWake queue front w =
       timerStatus queue front (wordAt m (atWord front pointerS) w) (loadWord m (atWord front pointerS) w)
@@ -54,18 +57,22 @@ module _ (m : List ℕ) where
   unfoldable pub timerNext : ℕ → ℕ → Work → Work
   timerNext queue second w = ifEq second notProcess w (setNext queue second w)
 
+  -- the front process leaves the queue (000 1.8)
   unfoldable pub timerUnlink : ℕ → ℕ → ℕ → Work → Work
   timerUnlink queue front second w =
       timerNext queue second (wIndexWord m timerBase queue second (wIndexWord m front tlinkS timeSet w))
 
+  -- the queue first, then the process (000 1.8; DECISIONS 41)
   unfoldable pub timerFront : ℕ → ℕ → Work → Work
   timerFront queue front w =
       timerWake queue front
       (timerUnlink queue front (wordAt m (atWord front tlinkS) w) (loadWord m (atWord front tlinkS) w))
 
+  -- frontProcess is read at TPtrLoc (000 1.8)
   unfoldable pub timerServe : ℕ → Work → Work
   timerServe queue w = timerFront queue (wordAt m (tptrLoc queue) w) (loadWord m (tptrLoc queue) w)
 
+  -- PROC HandleTimerRequest (000 1.8)
   unfoldable pub handleTimerRequest : ℕ → Work → Work
   handleTimerRequest queue w = timerServe queue (lower flagsReg (tEnabled queue) w)
 
@@ -75,10 +82,12 @@ module _ (m : List ℕ) where
   unfoldable pub insertNext : Work → Work
   insertNext w = gotoSNP (setNext (priority w) (reg breg w) w)
 
+  -- enqueue new timer process (000 1.10, InsertFinalStep)
   unfoldable pub insertLink : ℕ → ℕ → Work → Work
   insertLink previous subsequent w =
       saveIptr m (wIndexWord m (wptr w) tlinkS subsequent (wIndexWord m previous 0 (wptr w) w))
 
+  -- PROC InsertFinalStep (000 1.10); Breg and Creg as DECISIONS 15 says
   unfoldable pub insertFinalStep : ℕ → ℕ → Work → Work
   insertFinalStep previous subsequent w =
       insertNext (rIndexWord m timerBase (priority w) breg (put creg subsequent (insertLink previous subsequent w)))
@@ -107,10 +116,12 @@ module _ (m : List ℕ) where
   unfoldable pub deleteNext : Work → Work
   deleteNext w = ifEq (reg breg w) notProcess w (setNext (priority w) (reg breg w) w)
 
+  -- delete the current process from the timer queue (000 1.10, DeleteFinalStep)
   unfoldable pub deleteLink : ℕ → Work → Work
   deleteLink previous w =
       wIndexWord m (wptr w) tlinkS timeNotSet (wIndexWord m previous 0 (reg creg w) w)
 
+  -- PROC DeleteFinalStep (000 1.10); Breg and Creg as DECISIONS 15 says
   unfoldable pub deleteFinalStep : ℕ → Work → Work
   deleteFinalStep previous w =
       deleteNext
@@ -133,6 +144,7 @@ module _ (m : List ℕ) where
   unfoldable pub selectFirst : ℕ → Work → Work
   selectFirst status w = ifEq status noneSelected (put areg 1 (wIndexWord m (wptr w) 0 (reg areg w) w)) (put areg 0 w)
 
+  -- PROC IsThisSelectedProcess (000 1.10)
   unfoldable pub isThisSelectedProcess : Work → Work
   isThisSelectedProcess w =
       selectFirst (wordAt m (atWord (wptr w) 0) w) (loadWord m (atWord (wptr w) 0) w)
@@ -151,21 +163,25 @@ module _ (m : List ℕ) where
   unfoldable pub timeNow : Work → Work
   timeNow w = wIndexWord m (wptr w) timeS (reg (clockReg (priority w)) w) w
 
+  -- Breg = TimeSet.p: the IF on laterFlag (000 1.11, timer alt wait)
   unfoldable pub taltwtTime : Work → Work
   taltwtTime w =
       pick (later (reg (clockReg (priority w)) w) (reg areg w))
       (timeNow (wIndexWord m (wptr w) stateS ready w))
       (insertFirstStep (nextTime w))
 
+  -- the IF on Breg (000 1.11, timer alt wait); neither mark is Stop (DECISIONS 26)
   unfoldable pub taltwtLink : Work → Work
   taltwtLink w =
       ifEq (reg breg w) timeNotSet (wait m w)
       (ifEq (reg breg w) timeSet (taltwtTime (rIndexWord m (wptr w) timeS areg w)) (refuse stop w))
 
+  -- the IF on Creg (000 1.11, timer alt wait)
   unfoldable pub taltwtState : Work → Work
   taltwtState w =
       ifEq (reg creg w) ready (timeNow w) (taltwtLink (rIndexWord m (wptr w) tlinkS breg w))
 
+  -- timer alt wait (000 1.11)
   unfoldable pub taltwt : Work → Work
   taltwt w = taltwtState (rIndexWord m (wptr w) stateS creg (wIndexWord m (wptr w) 0 noneSelected w))
 
@@ -173,9 +189,11 @@ module _ (m : List ℕ) where
   unfoldable pub enbtFirst : Work → Work
   enbtFirst w = wIndexWord m (wptr w) timeS (reg breg w) (wIndexWord m (wptr w) tlinkS timeSet w)
 
+  -- update earliest time if this guard is earlier (000 1.11, enable timer)
   unfoldable pub enbtEarlier : ℕ → Work → Work
   enbtEarlier time w = pick (later time (reg breg w)) (wIndexWord m (wptr w) timeS (reg breg w) w) w
 
+  -- the IF on temp (000 1.11, enable timer); neither mark is Stop (DECISIONS 26)
   unfoldable pub enbtLink : ℕ → Work → Work
   enbtLink link w =
       ifEq link timeNotSet (enbtFirst w)
@@ -183,11 +201,13 @@ module _ (m : List ℕ) where
       (enbtEarlier (wordAt m (atWord (wptr w) timeS) w) (loadWord m (atWord (wptr w) timeS) w))
       (refuse stop w))
 
+  -- the IF on Areg (000 1.11, enable timer)
   unfoldable pub enbtGuard : Work → Work
   enbtGuard w =
       ifEq (reg areg w) 0 w
       (enbtLink (wordAt m (atWord (wptr w) tlinkS) w) (loadWord m (atWord (wptr w) tlinkS) w))
 
+  -- enable timer (000 1.11)
   unfoldable pub enbt : Work → Work
   enbt w = dropB (enbtGuard w)
 
@@ -195,15 +215,18 @@ module _ (m : List ℕ) where
   unfoldable pub distReady : ℕ → Work → Work
   distReady time w = pick (later time (reg creg w)) (isThisSelectedProcess w) (put areg 0 w)
 
+  -- Oreg = TimeSet.p, or removed from the queue (000 1.11, disable timer)
   unfoldable pub distSet : ℕ → Work → Work
   distSet link w =
       ifEq link timeSet
       (distReady (wordAt m (atWord (wptr w) timeS) w) (loadWord m (atWord (wptr w) timeS) w))
       (put areg 0 (deleteFirstStep w))
 
+  -- the IF on Oreg (000 1.11, disable timer)
   unfoldable pub distLink : ℕ → Work → Work
   distLink link w = ifEq link timeNotSet (put areg 0 w) (distSet link w)
 
+  -- disable timer (000 1.11); Oreg is 0 after the step anyway
   unfoldable pub dist : Work → Work
   dist w =
       ifEq (reg breg w) 0 (put areg 0 w)

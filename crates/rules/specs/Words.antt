@@ -17,9 +17,11 @@ range = 2 ^ 32
 abbrev pub maxInt : ℤ
 maxInt = pos (2 ^ 31 - 1)
 
+-- MinInt (000 1.1)
 abbrev pub minInt : ℤ
 minInt = negsuc (2 ^ 31 - 1)
 
+-- the word of MinInt
 abbrev pub minIntWord : ℕ
 minIntWord = 2 ^ 31
 
@@ -93,6 +95,7 @@ withByte j b w = w / 2 ^ (8 * j + 8) * 2 ^ (8 * j + 8) + b * 2 ^ (8 * j) + w % 2
 abbrev pub setBits : ℕ → ℕ → ℕ
 setBits mask x = bitOr x mask
 
+-- the bits of a mask cleared
 abbrev pub clearBits : ℕ → ℕ → ℕ
 clearBits mask x = bitAnd x (range - 1 - mask)
 
@@ -100,6 +103,7 @@ clearBits mask x = bitAnd x (range - 1 - mask)
 abbrev pub heldByte : ℕ → ℕ
 heldByte x = bitAnd (x / 2 ^ 8) 0xFF
 
+-- the word with the byte b in bits 8 to 15
 abbrev pub withHeldByte : ℕ → ℕ → ℕ
 withHeldByte b x = bitOr (bitAnd x 0xFFFF_00FF) (b * 2 ^ 8 % 2 ^ 32)
 
@@ -109,8 +113,10 @@ withHeldByte b x = bitOr (bitAnd x 0xFFFF_00FF) (b * 2 ^ 8 % 2 ^ 32)
 abbrev pub withNibble : ℕ → ℕ → ℕ
 withNibble byte oreg = bitOr oreg (bitAnd byte 0xF)
 
+-- pfix (DECISIONS 2)
 abbrev pub prefixed : ℕ → ℕ
 prefixed oreg = oreg * 2 ^ 4 % 2 ^ 32
 
+-- nfix (DECISIONS 2)
 abbrev pub negativePrefixed : ℕ → ℕ
 negativePrefixed oreg = (range - 1 - oreg) * 2 ^ 4 % 2 ^ 32

@@ -31,6 +31,7 @@ begin r = record { regs = r; stored = []; answer = 0; kind = 0; address = 0 }
 abbrev pub reg : ℕ → Work → ℕ
 reg k w = getD (w .regs) k 0
 
+-- a register given a value
 unfoldable pub put : ℕ → ℕ → Work → Work
 put k v w =
     record { regs = set (w .regs) k v; stored = w .stored; answer = w .answer; kind = w .kind; address = w .address }
@@ -39,12 +40,15 @@ put k v w =
 unfoldable pub raise : ℕ → ℕ → Work → Work
 raise k mask w = put k (setBits mask (reg k w)) w
 
+-- bits of a register cleared, by a mask
 unfoldable pub lower : ℕ → ℕ → Work → Work
 lower k mask w = put k (clearBits mask (reg k w)) w
 
+-- Wptr (000 1.3)
 abbrev pub wptr : Work → ℕ
 wptr w = wptrOf (reg wdescReg w)
 
+-- Priority (000 1.3)
 abbrev pub priority : Work → ℕ
 priority w = priorityOf (reg wdescReg w)
 
@@ -52,10 +56,12 @@ priority w = priorityOf (reg wdescReg w)
 unfoldable pub gotoSNP : Work → Work
 gotoSNP w = raise statusReg gotoSNPBit w
 
+-- the registers of Core given their values
 unfoldable pub putCore : Core → Work → Work
 putCore s w =
     record { regs = withCore s (w .regs); stored = w .stored; answer = w .answer; kind = w .kind; address = w .address }
 
+-- the registers of System given their values
 unfoldable pub putSystem : System → Work → Work
 putSystem y w =
     record { regs = withSystem y (w .regs); stored = w .stored; answer = w .answer; kind = w .kind; address = w .address }
@@ -65,27 +71,35 @@ putSystem y w =
 abbrev pub halted : ℕ
 halted = 6
 
+-- 7 Idle
 abbrev pub idle : ℕ
 idle = 7
 
+-- 8 NotReady
 abbrev pub notReady : ℕ
 notReady = 8
 
+-- 9 Unlisted
 abbrev pub unlisted : ℕ
 unlisted = 9
 
+-- 10 Outside
 abbrev pub outside : ℕ
 outside = 10
 
+-- 11 Stop
 abbrev pub stop : ℕ
 stop = 11
 
+-- the kinds of accesses (DECISIONS 44): a fetch
 abbrev pub kindFetch : ℕ
 kindFetch = 1
 
+-- a load
 abbrev pub kindLoad : ℕ
 kindLoad = 2
 
+-- a store
 abbrev pub kindStore : ℕ
 kindStore = 3
 
@@ -116,12 +130,15 @@ onCore f w = putCore (f (coreOf (w .regs))) w
 unfoldable pub attempted : Attempt → Work → Work
 attempted t w = pick (t .stops) (refuse stop w) (putCore (t .core) w)
 
+-- an operation that can Stop
 abbrev pub onAttempt : (Core → Attempt) → Work → Work
 onAttempt f w = attempted (f (coreOf (w .regs))) w
 
+-- the registers of both given their values
 unfoldable pub putBoth : Both → Work → Work
 putBoth t w = putSystem (t .system) (putCore (t .core) w)
 
+-- an operation on both
 abbrev pub onBoth : (Core → System → Both) → Work → Work
 onBoth f w = putBoth (f (coreOf (w .regs)) (systemOf (w .regs))) w
 
@@ -132,6 +149,7 @@ module _ (m : List ℕ) where
   unfoldable pub wordAt : ℕ → Work → ℕ
   wordAt a w = getD (stores m (w .stored)) (index a) 0
 
+  -- the byte at an address, through the stores so far
   unfoldable pub byteAt : ℕ → Work → ℕ
   byteAt a w = byteOf (selector a) (wordAt a w)
 
@@ -139,15 +157,19 @@ module _ (m : List ℕ) where
   unfoldable pub access : ℕ → ℕ → Work → Work
   access kind a w = ifLt (index a) (length m) w (refuseAt outside kind a w)
 
+  -- the fetch of an instruction byte (01, One step (c))
   abbrev pub fetchByte : ℕ → Work → Work
   fetchByte a w = access kindFetch a w
 
+  -- the load of a word (000 1.5)
   abbrev pub loadWord : ℕ → Work → Work
   loadWord a w = access kindLoad a w
 
+  -- the load of a byte (000 1.5)
   abbrev pub loadByte : ℕ → Work → Work
   loadByte a w = access kindLoad a w
 
+  -- the store of a word (000 1.5)
   unfoldable pub storeWord : ℕ → ℕ → Work → Work
   storeWord a v w = append (word (index a) v) (access kindStore a w)
 
@@ -177,6 +199,7 @@ module _ (m : List ℕ) where
       (ifLt (index destination) (length m) (moveOutside (atByte source 1) (atByte destination 1) n) (kindStore, destination))
       (kindLoad, source)
 
+  -- a move that stays inside, or the refusal of its first access outside (DECISIONS 47)
   unfoldable pub settleMove : ℕ × ℕ → ℕ → ℕ → ℕ → Work → Work
   settleMove first source destination n w =
       ifEq (first .0) 0 (append (bytes (offset source) (offset destination) n) w)
