@@ -1,8 +1,2 @@
-pub mod Sorting
-pub mod Frame
-pub mod Merge
-pub mod Written
-pub mod Outcomes
+pub mod Made
 pub mod Undo
-pub mod Single
-pub mod Brief

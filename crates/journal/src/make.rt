@@ -1,5 +1,4 @@
 // The stores of a plan, made in program order: single stores, the move, single stores.
-use crate::survey;
 use store::Plan;
 ghost use mathlib.Core.Path.{_≡_};
 ghost use mathlib.Core.List.{_++_};

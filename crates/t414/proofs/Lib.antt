@@ -1,3 +1,2 @@
-pub mod Refusing
-pub mod Loading
+pub mod Settling
 pub mod Commons

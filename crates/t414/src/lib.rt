@@ -7,8 +7,6 @@ ghost use mathlib.Core.Path.{_≡_};
 ghost use Rattle.rules.specs.Calls as rules;
 ghost use Rattle.rules.specs.Calls.{outcomeOf};
 
-mod checks;
-mod load;
 mod settle;
 
 // A machine with the code loaded; memory is made anew, the journal is not written.
@@ -16,13 +14,13 @@ pub fn fresh(mem: &mut [u32], journal: &mut [u32], code: &[u8]) -> Reply
     ensures { λ r. ⌜ outcomeOf r (now (mem .exit)) (now (journal .exit)) ≡ rules.fresh (now (code .entry)) (now (mem .entry)) (now (journal .entry)) ⌝ }
 {
     if checks::size_bad(mem.len(), journal.len()) {
-        return settle::refuse(load::no_machine(), 1);
+        return checks::refuse(loading::no_machine(), 1);
     }
-    if load::code_bad(mem.len(), code.len()) {
-        return settle::refuse(load::no_machine(), 2);
+    if loading::code_bad(mem.len(), code.len()) {
+        return checks::refuse(loading::no_machine(), 2);
     }
-    load::fill(mem, code);
-    let machine = load::fresh_machine(code.len());
+    loading::fill(mem, code);
+    let machine = loading::fresh_machine(code.len());
     Reply {
         machine,
         answer: Answer::Done,
@@ -36,13 +34,13 @@ pub fn step(m: Machine, mem: &mut [u32], journal: &mut [u32]) -> Reply
 {
     let number = checks::first_bad(false, mem.len(), journal.len(), m.depth, m.used);
     if number != 0 {
-        return settle::refuse(m, number);
+        return checks::refuse(m, number);
     }
     let regs = m.regs;
     let t = swift::common_step(mem, regs);
     let common = t.done;
     if common {
-        return journal::commit_common(m, t, mem, journal);
+        return brief::commit_common(m, t, mem, journal);
     }
     let p = engine::step(regs, mem);
     settle::settle(m, p, 0, mem, journal)
@@ -54,7 +52,7 @@ pub fn tick(m: Machine, mem: &mut [u32], journal: &mut [u32]) -> Reply
 {
     let number = checks::first_bad(false, mem.len(), journal.len(), m.depth, m.used);
     if number != 0 {
-        return settle::refuse(m, number);
+        return checks::refuse(m, number);
     }
     let regs = m.regs;
     let p = links::clocks::tick(store::begin(regs));
@@ -67,7 +65,7 @@ pub fn take(m: Machine, mem: &mut [u32], journal: &mut [u32], channel: u32) -> R
 {
     let number = checks::first_bad(4 <= channel, mem.len(), journal.len(), m.depth, m.used);
     if number != 0 {
-        return settle::refuse(m, number);
+        return checks::refuse(m, number);
     }
     let c = channel as usize;
     let regs = m.regs;
@@ -89,7 +87,7 @@ pub fn give(m: Machine, mem: &mut [u32], journal: &mut [u32], channel: u32, byte
         m.used,
     );
     if number != 0 {
-        return settle::refuse(m, number);
+        return checks::refuse(m, number);
     }
     let regs = m.regs;
     let p = links::give(store::begin(regs), mem, channel as usize, byte as u32);
@@ -102,7 +100,7 @@ pub fn event(m: Machine, mem: &mut [u32], journal: &mut [u32]) -> Reply
 {
     let number = checks::first_bad(false, mem.len(), journal.len(), m.depth, m.used);
     if number != 0 {
-        return settle::refuse(m, number);
+        return checks::refuse(m, number);
     }
     let regs = m.regs;
     let p = links::event(store::begin(regs));
@@ -115,10 +113,10 @@ pub fn undo(m: Machine, mem: &mut [u32], journal: &mut [u32]) -> Reply
 {
     let number = checks::first_bad(false, mem.len(), journal.len(), m.depth, m.used);
     if number != 0 {
-        return settle::refuse(m, number);
+        return checks::refuse(m, number);
     }
     if m.depth == 0 {
-        return settle::refuse(m, 5);
+        return checks::refuse(m, 5);
     }
     journal::undo_last(m, mem, journal)
 }
@@ -128,7 +126,7 @@ pub fn clear(m: Machine, mem: &mut [u32], journal: &mut [u32]) -> Reply
     ensures { λ r. ⌜ outcomeOf r (now (mem .exit)) (now (journal .exit)) ≡ rules.clear m (now (mem .entry)) (now (journal .entry)) ⌝ }
 {
     if checks::size_bad(mem.len(), journal.len()) {
-        return settle::refuse(m, 1);
+        return checks::refuse(m, 1);
     }
     let regs = m.regs;
     let machine = Machine {

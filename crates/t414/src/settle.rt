@@ -1,5 +1,5 @@
 // What a worked-out plan comes to.
-use rules::Answer;
+use checks::refuse;
 use rules::Machine;
 use rules::Reply;
 use store::Plan;
@@ -8,44 +8,8 @@ ghost use mathlib.Core.Bool.{false};
 ghost use Prim.Native.Nat.{_≤_};
 ghost use lib.ListN.{length};
 ghost use Rattle.rules.specs.Journal.{frameBad};
-ghost use Rattle.rules.specs.Calls.{outcomeOf, numberOf, settled};
+ghost use Rattle.rules.specs.Calls.{outcomeOf, settled};
 ghost use Rattle.store.specs.View.{view};
-ghost use Rattle.t414.specs.Checks.{Refusal};
-
-// The answer of 01's number.
-fn answer_of(number: u32) -> Answer
-    requires { ⌜ number ≤ 12 ⌝ }
-    ensures { λ r. ⌜ numberOf r ≡ number ⌝ }
-{
-    match number {
-        0 => Answer::Done,
-        1 => Answer::Size,
-        2 => Answer::CodeSize,
-        3 => Answer::BadChannel,
-        4 => Answer::JournalBad,
-        5 => Answer::NothingToUndo,
-        6 => Answer::Halted,
-        7 => Answer::Idle,
-        8 => Answer::NotReady,
-        9 => Answer::Unlisted,
-        10 => Answer::Outside,
-        11 => Answer::Stop,
-        _ => Answer::JournalFull,
-    }
-}
-
-// A refusal by its number; it alters nothing.
-pub fn refuse(m: Machine, number: u32) -> Reply
-    requires { ⌜ number ≤ 12 ⌝ }
-    ensures { λ r. ⌜ Refusal number m r ⌝ }
-{
-    let answer = answer_of(number);
-    Reply {
-        machine: m,
-        answer,
-        byte: 0,
-    }
-}
 
 // A plan that was refused answers its number; any other is committed.
 pub fn settle(m: Machine, p: Plan, byte: u8, mem: &mut [u32], journal: &mut [u32]) -> Reply

@@ -7,8 +7,8 @@ use Rattle.rules.specs.Memory.{stores, touched}
 use Rattle.rules.specs.Journal.{recordLength}
 use Rattle.rules.specs.declared.Answer.the-variants.{JournalFull}
 use Rattle.store.specs.View.{view}
-use Rattle.journal.proofs.Frame.{frame-good}
-use Rattle.journal.proofs.Outcomes.{refusal-is, number-full, commit-full, commit-done}
+use Rattle.frame.proofs.Frame.{frame-good}
+use Rattle.frame.proofs.Outcomes.{refusal-is, number-full, commit-full, commit-done}
 use borrow.Author.Needs.{needs}
 use Rattle.journal.proofs.commit.Statement.{statement}
 use Rattle.journal.proofs.commit.Tie as tie

@@ -4,8 +4,8 @@ use Prim.Native.Nat.{_-_, _*_, _≤_, _<_}
 use lib.ListN.{length}
 use Rattle.rules.specs.Journal.{recordLength}
 use Rattle.rules.specs.declared.Answer.the-variants.{JournalBad}
-use Rattle.journal.proofs.Frame.{frame-good}
-use Rattle.journal.proofs.Outcomes.{refusal-is, number-bad, undo-short, undo-stray, undo-done}
+use Rattle.frame.proofs.Frame.{frame-good}
+use Rattle.frame.proofs.Outcomes.{refusal-is, number-bad, undo-short, undo-stray, undo-done}
 use borrow.Author.Needs.{needs}
 use Rattle.journal.proofs.undo_last.Statement.{statement}
 use Rattle.journal.proofs.undo_last.Tie as tie

@@ -3,8 +3,8 @@ use mathlib.Core.Path.{sym, _∙_}
 use Prim.Native.Nat.{_-_}
 use lib.ListN.{length}
 use Rattle.rules.specs.Calls.{numberOf}
-use Rattle.t414.proofs.Refusing.{size-good}
-use Rattle.t414.proofs.Loading.{code-good, fresh-size, fresh-code, fresh-done}
+use Rattle.checks.proofs.Refusing.{size-good}
+use Rattle.loading.proofs.Loading.{code-good, fresh-size, fresh-code, fresh-done}
 use borrow.Author.Needs.{needs}
 use Rattle.t414.proofs.fresh.Statement.{statement}
 use Rattle.t414.proofs.fresh.Tie as tie

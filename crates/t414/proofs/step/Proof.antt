@@ -4,7 +4,8 @@ use lib.ListN.{length}
 use mathlib.Core.Bool.{false}
 use Rattle.rules.specs.Registers.{registers}
 use Rattle.rules.specs.Calls.{step}
-use Rattle.t414.proofs.Refusing.{number-known, stopped, passed, ready, fits, frame-good, step-known}
+use Rattle.checks.proofs.Refusing.{number-known, stopped, passed, fits, frame-good}
+use Rattle.t414.proofs.Settling.{ready, step-known}
 use Rattle.t414.proofs.Commons.{common-step-is}
 use borrow.Author.Needs.{needs}
 use Rattle.t414.proofs.step.Statement.{statement}

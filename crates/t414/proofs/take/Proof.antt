@@ -5,7 +5,8 @@ use lib.ListN.{length}
 use lib.Dec.{leb}
 use Rattle.rules.specs.Registers.{registers}
 use Rattle.rules.specs.Calls.{take, notOutput}
-use Rattle.t414.proofs.Refusing.{number-known, stopped, passed, ready, take-known, channel-good, output-good}
+use Rattle.checks.proofs.Refusing.{number-known, stopped, passed, channel-good, output-good}
+use Rattle.t414.proofs.Settling.{ready, take-known}
 use borrow.Author.Needs.{needs}
 use Rattle.t414.proofs.take.Statement.{statement}
 use Rattle.t414.proofs.take.Tie as tie

@@ -3,7 +3,8 @@ use mathlib.Core.Path.{_≡_, sym, _∙_}
 use Prim.Native.Nat.{_-_}
 use mathlib.Core.Bool.{false}
 use Rattle.rules.specs.Calls.{undo}
-use Rattle.t414.proofs.Refusing.{number-known, stopped, undo-none, undo-some, frame-good}
+use Rattle.checks.proofs.Refusing.{number-known, stopped, frame-good}
+use Rattle.t414.proofs.Settling.{undo-none, undo-some}
 use borrow.Author.Needs.{needs}
 use Rattle.t414.proofs.undo.Statement.{statement}
 use Rattle.t414.proofs.undo.Tie as tie

@@ -1,5 +1,5 @@
 use Prim.Native.Nat.{_-_}
-use Rattle.journal.proofs.Written.{log-made}
+use Rattle.journal.proofs.Made.{log-made}
 use borrow.Author.Needs.{needs}
 use Rattle.journal.proofs.make.make.Statement.{statement}
 use Rattle.journal.proofs.make.make.Tie as tie

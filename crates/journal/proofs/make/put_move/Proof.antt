@@ -1,7 +1,7 @@
 use mathlib.Core.Path.{sym, _∙_}
 use Prim.Native.Nat.{_-_}
-use Rattle.journal.proofs.Frame.{within-told}
-use Rattle.journal.proofs.Written.{move-in, move-out}
+use Rattle.survey.proofs.Within.{within-told}
+use Rattle.journal.proofs.Made.{move-in, move-out}
 use borrow.Author.Needs.{needs}
 use Rattle.journal.proofs.make.put_move.Statement.{statement}
 use Rattle.journal.proofs.make.put_move.Tie as tie

@@ -1,0 +1,3 @@
+pub mod Within
+pub mod Sorting
+pub mod Merge
