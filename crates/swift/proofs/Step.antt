@@ -23,6 +23,7 @@ use Rattle.rules.specs.Operations as tables
 use Rattle.rules.specs.Step as steps
 use Rattle.rules.proofs.Tests.{yes-lt, no-lt, yes-le, no-le, yes-eq, no-eq, yes, no, by-bool, cases-lt, cases-eq}
 use Rattle.rules.specs.declared.Core.{Core}
+use Rattle.quiet.specs.Quiet as quiet
 use Rattle.swift.specs.declared.Swift.{Swift}
 use Rattle.swift.specs.Swift as swift
 
@@ -139,7 +140,7 @@ module _ (m rest : List ℕ) where
 
   -- jump
   j-good : (s₀ s : Core) → Good 0x0 s (swift.j (listed s₀ rest) s)
-  unfolding swift.j swift.slices steps.execute tables.function tables.functions scheduling.j scheduling.timeSlice scheduling.sliceIfRunning scheduling.sliceIfLong put
+  unfolding swift.j quiet.slices steps.execute tables.function tables.functions scheduling.j scheduling.timeSlice scheduling.sliceIfRunning scheduling.sliceIfLong put
   j-good s₀ s d clear =
       cases-eq (priorityOf (s .wdesc)) 0
       (λ h. rw (yes-eq h, yes-eq h) (finish m (s .status) _ refl clear))
@@ -195,8 +196,8 @@ module _ (m rest : List ℕ) where
 
 -- ---- what may come before an instruction
 
-calm-none : (r : List ℕ) (n c : ℕ) → swift.calm c n r ≡ true → requestFrom c n (begin r) ≡ linkChans
-unfolding swift.calm requestFrom
+calm-none : (r : List ℕ) (n c : ℕ) → quiet.calm c n r ≡ true → requestFrom c n (begin r) ≡ linkChans
+unfolding quiet.calm requestFrom
 calm-none r zero c h = refl
 calm-none r (suc n) c h =
     cases-eq (bitAnd (getD r (channelReg c) 0) (runRequest + readyRequest)) 0
@@ -208,32 +209,32 @@ not-not true h = never h
 not-not false h = refl
 
 module _ (m r : List ℕ) where
-  first-ready : swift.due 0 r ≡ false → timerReady 0 (begin r) ≡ false
-  unfolding swift.due timerReady timerDue
+  first-ready : quiet.due 0 r ≡ false → timerReady 0 (begin r) ≡ false
+  unfolding quiet.due timerReady timerDue
   first-ready h = rw (yes-eq {a = 0} {b = 0} refl) h
 
-  second-ready : swift.due 1 r ≡ false → timerReady 1 (begin r) ≡ false
-  unfolding swift.due timerReady timerDue
+  second-ready : quiet.due 1 r ≡ false → timerReady 1 (begin r) ≡ false
+  unfolding quiet.due timerReady timerDue
   second-ready h =
       let one : _≡_ {A = ℕ} 1 0 → ⊥ = omega arith in
       rw (no-eq one)
       (cases-eq (priorityOf (getD r 1 0)) 0 (λ e. rw (yes-eq e)) (λ e. rw (no-eq e) h))
 
   -- between instructions, with no request and no timer
-  asked-nothing : swift.calm 0 linkChans r ≡ true → swift.due 0 r ≡ false → swift.due 1 r ≡ false
+  asked-nothing : quiet.calm 0 linkChans r ≡ true → quiet.due 0 r ≡ false → quiet.due 1 r ≡ false
       → steps.channelsFirst m (begin r) ≡ steps.instructionUnlessIdle m (begin r)
   unfolding steps.channelsFirst steps.timersFirst requested
   asked-nothing c a b =
       let nine : linkChans ≤ requestFrom 0 linkChans (begin r) = omega (arith, calm-none r linkChans 0 c) in
       rw (no-lt nine, first-ready a, second-ready b)
 
-  unasked-steps : swift.unasked r ≡ true → steps.channelsFirst m (begin r) ≡ steps.instructionUnlessIdle m (begin r)
-  unfolding swift.unasked
+  unasked-steps : quiet.unasked r ≡ true → steps.channelsFirst m (begin r) ≡ steps.instructionUnlessIdle m (begin r)
+  unfolding quiet.unasked
   unasked-steps h =
-      by-bool (swift.calm 0 linkChans r)
-      (λ c. by-bool (swift.due 0 r)
+      by-bool (quiet.calm 0 linkChans r)
+      (λ c. by-bool (quiet.due 0 r)
       (λ a. never (rw (c, a) at h))
-      (λ a. asked-nothing c a (not-not (swift.due 1 r) (rw (c, a) at h))))
+      (λ a. asked-nothing c a (not-not (quiet.due 1 r) (rw (c, a) at h))))
       (λ c. never (rw c at h))
 
   -- a quiet machine fetches
@@ -243,15 +244,15 @@ module _ (m r : List ℕ) where
     pub clear : bitAnd (getD r statusReg 0) gotoSNPBit ≡ 0
     pub first : steps.choose m (begin r) ≡ steps.instructionUnlessIdle m (begin r)
 
-  quiet-first : ifEq (getD r oreg 0) 0 (swift.unasked r) true ≡ true → steps.choose m (begin r) ≡ steps.instructionUnlessIdle m (begin r)
+  quiet-first : ifEq (getD r oreg 0) 0 (quiet.unasked r) true ≡ true → steps.choose m (begin r) ≡ steps.instructionUnlessIdle m (begin r)
   unfolding steps.choose
   quiet-first h =
       cases-eq (getD r oreg 0) 0
       (λ e. rw (yes-eq e) (unasked-steps (rw (yes-eq e) at h)))
       (λ e. rw (no-eq e))
 
-  quiet-told : swift.quiet r ≡ true → Quiet
-  unfolding swift.quiet
+  quiet-told : quiet.quiet r ≡ true → Quiet
+  unfolding quiet.quiet
   quiet-told h =
       cases-eq (bitAnd (getD r flagsReg 0) haltedFlag) 0
       (λ a. cases-eq (bitAnd (getD r flagsReg 0) idleFlag) 0
@@ -270,7 +271,7 @@ listed-step : (m : List ℕ) (s : Core) (rest : List ℕ) → swift.swift m (lis
     → steps.step m (begin (listed s rest)) ≡ swift.swiftWork (listed s rest) (swift.swift m (listed s rest))
 unfolding swift.swift coreOf withCore
 listed-step m s rest d =
-    by-bool (swift.quiet (listed s rest))
+    by-bool (quiet.quiet (listed s rest))
     (λ h.
     let q = quiet-told m (listed s rest) h in
     rw (h, quiet-step m (listed s rest) q) (fetch-good m rest s (rw h at d) (q .clear)))

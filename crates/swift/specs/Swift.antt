@@ -1,20 +1,18 @@
 -- The common steps, as definitions on the seven registers, the rest of the registers and the memory. That they are the steps of rules is the
 -- law `swift-step` in proofs/.
-use Prim.Native.Nat.{ℕ, zero, suc, _+_, _-_, _*_, _/_, _^_}
-use mathlib.Core.Bool.{Bool, true, false, _&&_, _||_, not}
+use Prim.Native.Nat.{ℕ, _/_, _^_}
+use mathlib.Core.Bool.{true, false}
 use mathlib.Core.List.{List, [], _∷_}
-use lib.Bits.{bitAnd}
-use lib.Dec.{eqb, ltb}
 use lib.ListN.{length, getD}
-use Rattle.rules.specs.Tests.{pick, ifLt, ifLe, ifEq, ifSet, look}
-use Rattle.rules.specs.Words.{atByte, atWord, index, selector, byteOf, withNibble, later}
-use Rattle.rules.specs.Core.{core, withIptr, withA, withOreg, wptrOf, priorityOf, push, pop, gotoSNPBit}
+use Rattle.rules.specs.Tests.{pick, ifLt, ifEq, look}
+use Rattle.rules.specs.Words.{atByte, atWord, index, selector, byteOf, withNibble}
+use Rattle.rules.specs.Core.{core, withIptr, withA, withOreg, wptrOf, push, pop}
 use Rattle.rules.specs.Stack as stack
-use Rattle.rules.specs.Registers.{wdescReg, oreg, statusReg, clockReg, tnextReg, sliceReg, flagsReg, tEnabled, idleFlag, haltedFlag, channelReg, runRequest, readyRequest, linkChans, coreOf, withCore}
+use Rattle.rules.specs.Registers.{coreOf, withCore}
 use Rattle.rules.specs.Memory.{Store, word}
 use Rattle.rules.specs.Work.{Work}
-use Rattle.rules.specs.Scheduling.{sliceLength}
 use Rattle.rules.specs.declared.Core.{Core}
+use Rattle.quiet.specs.Quiet.{slices, quiet}
 use Rattle.swift.specs.declared.Swift.{Swift}
 
 -- left to the engine
@@ -63,12 +61,7 @@ module _ (m : List ℕ) where
       (storing (index (atWord (s .a) (s .oreg))) (s .b) (withA (s .c) s))
       cold
 
--- jump, where no slice ends: the process is high, or the clocks stand, or the slice is short
-unfoldable pub slices : Core → List ℕ → Bool
-slices s r =
-    ifEq (priorityOf (s .wdesc)) 0 false
-    (ifSet stack.clocksRun (getD r flagsReg 0) (ifLe sliceLength (getD r sliceReg 0) true false) false)
-
+-- jump, where no slice ends
 unfoldable pub j : List ℕ → Core → Swift
 j r s = pick (slices s r) cold (plain (withIptr (atByte (s .iptr) (s .oreg)) s))
 
@@ -141,29 +134,6 @@ functions m r =
 
 unfoldable pub decode : List ℕ → List ℕ → ℕ → Core → Swift
 decode m r code s = look (functions m r) code other s
-
--- ---- what may come before an instruction
-
--- no channel has a request
-unfoldable pub calm : ℕ → ℕ → List ℕ → Bool
-calm c zero r = true
-calm c (suc n) r = ifSet (runRequest + readyRequest) (getD r (channelReg c) 0) false (calm (suc c) n r)
-
--- a timer is enabled and its time has come
-unfoldable pub due : ℕ → List ℕ → Bool
-due queue r =
-    ifSet (tEnabled queue) (getD r flagsReg 0) (not (later (getD r (tnextReg queue) 0) (getD r (clockReg queue) 0))) false
-
--- between instructions: no request, no timer
-unfoldable pub unasked : List ℕ → Bool
-unasked r = pick (calm 0 linkChans r) (pick (due 0 r) false (not (due 1 r))) false
-
--- not halted, not idle, GotoSNP clear; and between instructions unasked
-unfoldable pub quiet : List ℕ → Bool
-quiet r =
-    ifSet haltedFlag (getD r flagsReg 0) false
-    (ifSet idleFlag (getD r flagsReg 0) false
-    (ifSet gotoSNPBit (getD r statusReg 0) false (ifEq (getD r oreg 0) 0 (unasked r) true)))
 
 -- ---- the whole of it
 

@@ -1,9 +1,5 @@
 // The functions of common steps, on the seven registers after the fetch.
 use crate::Swift;
-use names::CLOCKS_RUN;
-use names::FLAGS_REG;
-use names::SLICE_LENGTH;
-use names::SLICE_REG;
 use rules::Core;
 use rules::REGISTERS;
 use stack::registers;
@@ -121,26 +117,10 @@ fn stnl(mem: &[u32], s: Core) -> Swift
     cold()
 }
 
-// A slice ends at a jump: the process is low, the clocks run, and the slice is long.
-fn slices(regs: [u32; REGISTERS], s: Core) -> bool
-    ensures { λ r. ⌜ r ≡ swift.slices s regs ⌝ }
-{
-    if s.wdesc & 1 == 0 {
-        return false;
-    }
-    if regs[FLAGS_REG] & CLOCKS_RUN == 0 {
-        return false;
-    }
-    if SLICE_LENGTH <= regs[SLICE_REG] {
-        return true;
-    }
-    false
-}
-
 fn j(regs: [u32; REGISTERS], s: Core) -> Swift
     ensures { λ r. ⌜ r ≡ swift.j regs s ⌝ }
 {
-    if slices(regs, s) {
+    if quiet::slices(regs, s) {
         return cold();
     }
     let mut t = s;

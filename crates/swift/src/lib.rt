@@ -1,6 +1,5 @@
 // The common steps, done on the seven registers of Core and at most one store: what nearly every step of a program is.
 // A step that is not among them, or that anything comes before or after, is left to the engine.
-pub mod before;
 pub mod functions;
 
 use rules::Core;
@@ -65,7 +64,7 @@ fn fetch(mem: &[u32], regs: [u32; REGISTERS], s: Core) -> Swift
 pub fn common_step(mem: &[u32], regs: [u32; REGISTERS]) -> Swift
     ensures { λ r. ⌜ r ≡ swift.swift (now (mem .entry)) regs ⌝ }
 {
-    if before::quiet(regs) {
+    if quiet::quiet(regs) {
         return fetch(mem, regs, core_of(regs));
     }
     functions::cold()

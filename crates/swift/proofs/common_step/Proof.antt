@@ -12,7 +12,7 @@ use Rattle.swift.proofs.common_step.Statement.{statement}
 use Rattle.swift.proofs.common_step.Tie as tie
 use Rattle.swift.proofs.common_step.Reads as reads
 use Rattle.swift.proofs.common_step.Lts as lts
-use Rattle.swift.proofs.before.quiet.Reads as quiet-reads
+use Rattle.quiet.proofs.quiet.Reads as quiet-reads
 use Rattle.swift.proofs.core_of.Reads as core-of-reads
 use Rattle.swift.proofs.fetch.Reads as fetch-reads
 use Rattle.swift.proofs.functions.cold.Reads as cold-reads

@@ -14,7 +14,7 @@ use Rattle.swift.proofs.functions.j.Reads as reads
 use Rattle.swift.proofs.functions.j.Lts as lts
 use Rattle.swift.proofs.functions.cold.Reads as cold-reads
 use Rattle.swift.proofs.functions.plain.Reads as plain-reads
-use Rattle.swift.proofs.functions.slices.Reads as slices-reads
+use Rattle.quiet.proofs.slices.Reads as slices-reads
 use Rattle.words.proofs.at_byte.Reads as at-byte-reads
 
 -- src/functions.rt:143:8

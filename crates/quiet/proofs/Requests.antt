@@ -9,17 +9,17 @@ use lib.Bits.{bitAnd}
 use lib.ListN.{getD}
 use Rattle.rules.specs.Registers.{channelReg}
 use Rattle.rules.proofs.Tests.{yes-eq, no-eq}
-use Rattle.swift.specs.Swift as swift
+use Rattle.quiet.specs.Quiet as quiet
 
 module _ (r : List ℕ) where
-  pub calm-on : (n c : ℕ) → 0 < n → bitAnd (getD r (channelReg c) 0) 24 ≡ 0 → swift.calm c n r ≡ swift.calm (c + 1) (n - 1) r
-  unfolding swift.calm
+  pub calm-on : (n c : ℕ) → 0 < n → bitAnd (getD r (channelReg c) 0) 24 ≡ 0 → quiet.calm c n r ≡ quiet.calm (c + 1) (n - 1) r
+  unfolding quiet.calm
   calm-on zero c l h = absurd (omega arith)
   calm-on (suc n) c l h =
       let e : suc n - 1 ≡ n = omega arith in
       rw (yes-eq h, e, add-one c)
 
-  pub calm-off : (n c : ℕ) → 0 < n → (bitAnd (getD r (channelReg c) 0) 24 ≡ 0 → ⊥) → swift.calm c n r ≡ false
-  unfolding swift.calm
+  pub calm-off : (n c : ℕ) → 0 < n → (bitAnd (getD r (channelReg c) 0) 24 ≡ 0 → ⊥) → quiet.calm c n r ≡ false
+  unfolding quiet.calm
   calm-off zero c l h = absurd (omega arith)
   calm-off (suc n) c l h = rw (no-eq h)

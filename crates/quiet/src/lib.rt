@@ -1,25 +1,29 @@
-// Whether anything comes before an instruction.
+// Whether anything comes before an instruction, and whether a slice ends at a jump.
 use names::CHANNEL_REG;
 use names::CLOCK_REG;
+use names::CLOCKS_RUN;
 use names::FLAGS_REG;
 use names::GOTO_SNP_BIT;
 use names::HALTED_FLAG;
 use names::IDLE_FLAG;
 use names::OREG;
+use names::SLICE_LENGTH;
+use names::SLICE_REG;
 use names::STATUS_REG;
 use names::TNEXT_REG;
+use rules::Core;
 use rules::REGISTERS;
 ghost use mathlib.Core.Path.{_≡_};
 ghost use Prim.Native.Nat.{_<_};
 ghost use Rattle.rules.specs.Registers.{tEnabled};
-ghost use Rattle.swift.specs.Swift as swift;
+ghost use Rattle.quiet.specs.Quiet as quiet;
 
 // A run request or a ready request.
 const REQUESTS: u32 = 24;
 
 // No channel has a request.
 fn calm(regs: [u32; REGISTERS]) -> bool
-    ensures { λ r. ⌜ r ≡ swift.calm 0 9 regs ⌝ }
+    ensures { λ r. ⌜ r ≡ quiet.calm 0 9 regs ⌝ }
 {
     let mut c = 0;
     while c < 9 {
@@ -35,7 +39,7 @@ fn calm(regs: [u32; REGISTERS]) -> bool
 // A timer is enabled and its time has come.
 fn due(regs: [u32; REGISTERS], queue: usize, mask: u32) -> bool
     requires { ⌜ (queue < 2) × (mask ≡ tEnabled queue) ⌝ }
-    ensures { λ r. ⌜ r ≡ swift.due queue regs ⌝ }
+    ensures { λ r. ⌜ r ≡ quiet.due queue regs ⌝ }
 {
     if regs[FLAGS_REG] & mask == 0 {
         return false;
@@ -45,7 +49,7 @@ fn due(regs: [u32; REGISTERS], queue: usize, mask: u32) -> bool
 
 // Between instructions: no request, no timer.
 fn unasked(regs: [u32; REGISTERS]) -> bool
-    ensures { λ r. ⌜ r ≡ swift.unasked regs ⌝ }
+    ensures { λ r. ⌜ r ≡ quiet.unasked regs ⌝ }
 {
     if calm(regs) {
         if due(regs, 0, 2) {
@@ -58,7 +62,7 @@ fn unasked(regs: [u32; REGISTERS]) -> bool
 
 // Not halted, not idle, no process to be started; and between instructions unasked.
 pub fn quiet(regs: [u32; REGISTERS]) -> bool
-    ensures { λ r. ⌜ r ≡ swift.quiet regs ⌝ }
+    ensures { λ r. ⌜ r ≡ quiet.quiet regs ⌝ }
 {
     if regs[FLAGS_REG] & HALTED_FLAG == 0 {
         if regs[FLAGS_REG] & IDLE_FLAG == 0 {
@@ -71,6 +75,22 @@ pub fn quiet(regs: [u32; REGISTERS]) -> bool
             return false;
         }
         return false;
+    }
+    false
+}
+
+// A slice ends at a jump: the process is low, the clocks run, and the slice is long.
+pub fn slices(regs: [u32; REGISTERS], s: Core) -> bool
+    ensures { λ r. ⌜ r ≡ quiet.slices s regs ⌝ }
+{
+    if s.wdesc & 1 == 0 {
+        return false;
+    }
+    if regs[FLAGS_REG] & CLOCKS_RUN == 0 {
+        return false;
+    }
+    if SLICE_LENGTH <= regs[SLICE_REG] {
+        return true;
     }
     false
 }

@@ -7,63 +7,63 @@ use native.Mathlib.Numerals.{add-one}
 use lib.ListN.{length}
 use Rattle.rules.proofs.Tests.{yes-lt, no-lt, yes-le, no-le, yes-eq, no-eq, yes, no, look-none}
 use Rattle.rules.specs.Registers.{coreOf}
-use Rattle.swift.specs.Swift as swift
-use Rattle.swift.proofs.Calm.{calm-on, calm-off}
-use Rattle.swift.proofs.before.calm.Statement.{statement}
-use Rattle.swift.proofs.before.calm.Tie as tie
-use Rattle.swift.proofs.before.calm.Reads as reads
-use Rattle.swift.proofs.before.calm.Lts as lts
+use Rattle.quiet.specs.Quiet as quiet
+use Rattle.quiet.proofs.Requests.{calm-on, calm-off}
+use Rattle.quiet.proofs.calm.Statement.{statement}
+use Rattle.quiet.proofs.calm.Tie as tie
+use Rattle.quiet.proofs.calm.Reads as reads
+use Rattle.quiet.proofs.calm.Lts as lts
 
 abbrev Inv-loop : tie.InvT-loop
-Inv-loop regs c₀ c = (c ≤ 9) × (swift.calm 0 9 regs ≡ swift.calm c (9 - c) regs)
+Inv-loop regs c₀ c = (c ≤ 9) × (quiet.calm 0 9 regs ≡ quiet.calm c (9 - c) regs)
 
 abbrev μ-loop : tie.MeasureT-loop
 μ-loop regs c₀ c = 9 - c
 
--- src/before.rt:25:5
+-- src/lib.rt:25:5
 loop-holds : tie.Need-loop-holds Inv-loop μ-loop
 loop-holds c = (search needs, refl)
 
--- src/before.rt:26:31
+-- src/lib.rt:26:31
 mul-if1 : tie.Need-mul-if1 Inv-loop μ-loop
 mul-if1 c = search needs
 
--- src/before.rt:26:17
+-- src/lib.rt:26:17
 add-if1 : tie.Need-add-if1 Inv-loop μ-loop
 add-if1 c = search needs
 
--- src/before.rt:26:12
+-- src/lib.rt:26:12
 mul-if1-2 : tie.Need-mul-if1-2 Inv-loop μ-loop
 mul-if1-2 c = search needs
 
--- src/before.rt:26:12
+-- src/lib.rt:26:12
 array-read-if1 : tie.Need-array-read-if1 Inv-loop μ-loop
 array-read-if1 c = search needs
 
--- src/before.rt:27:13
+-- src/lib.rt:27:13
 add-c : tie.Need-add-c Inv-loop μ-loop
 add-c c = search needs
 
--- src/before.rt:25:5
+-- src/lib.rt:25:5
 loop-less : tie.Need-loop-less Inv-loop μ-loop
 loop-less c = search needs
 
--- src/before.rt:25:5
+-- src/lib.rt:25:5
 loop-again : tie.Need-loop-again Inv-loop μ-loop
 loop-again c =
     let L = c .before .before in
     let e : 9 - (L .loop .c + 1) ≡ 9 - L .loop .c - 1 = omega arith in
     (omega arith, rw e (L .loop .inv .1 ∙ calm-on (L .before .args .t1) (9 - L .loop .c) (L .loop .c) (omega arith) (c .if1 .taken)))
 
--- src/before.rt:29:13
+-- src/lib.rt:29:13
 returns : tie.Need-returns Inv-loop μ-loop
 returns c =
     let L = c .before .before in
     sym (L .loop .inv .1 ∙ calm-off (L .before .args .t1) (9 - L .loop .c) (L .loop .c) (omega arith) (c .if1 .left))
 
--- src/before.rt:21:1
+-- src/lib.rt:21:1
 returns-2 : tie.Need-returns-2 Inv-loop μ-loop
-unfolding swift.calm
+unfolding quiet.calm
 returns-2 c =
     let L = c .before in
     let e : 9 - L .loop .c ≡ 0 = omega arith in

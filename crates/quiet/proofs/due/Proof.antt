@@ -6,54 +6,54 @@ use native.Mathlib.Numerals.{add-one}
 use lib.ListN.{length}
 use Rattle.rules.proofs.Tests.{yes-lt, no-lt, yes-le, no-le, yes-eq, no-eq, yes, no, look-none}
 use Rattle.rules.specs.Registers.{coreOf}
-use Rattle.swift.specs.Swift as swift
+use Rattle.quiet.specs.Quiet as quiet
 use borrow.Author.Needs.{needs}
-use Rattle.swift.proofs.before.due.Statement.{statement}
-use Rattle.swift.proofs.before.due.Tie as tie
-use Rattle.swift.proofs.before.due.Reads as reads
-use Rattle.swift.proofs.before.due.Lts as lts
+use Rattle.quiet.proofs.due.Statement.{statement}
+use Rattle.quiet.proofs.due.Tie as tie
+use Rattle.quiet.proofs.due.Reads as reads
+use Rattle.quiet.proofs.due.Lts as lts
 use Rattle.words.proofs.later.Reads as later-reads
 
--- src/before.rt:40:8
+-- src/lib.rt:40:8
 array-read-if1 : tie.Need-array-read-if1
 array-read-if1 c = search needs
 
--- src/before.rt:41:9
+-- src/lib.rt:41:9
 returns : tie.Need-returns
-unfolding swift.due
+unfolding quiet.due
 returns c = rw (← c .before .pre .1, yes-eq (c .if1 .taken))
 
--- src/before.rt:43:24
+-- src/lib.rt:43:24
 add-later : tie.Need-add-later
 add-later c = search needs
 
--- src/before.rt:43:19
+-- src/lib.rt:43:19
 mul-later : tie.Need-mul-later
 mul-later c = search needs
 
--- src/before.rt:43:19
+-- src/lib.rt:43:19
 array-read-later : tie.Need-array-read-later
 array-read-later c = search needs
 
--- src/before.rt:43:49
+-- src/lib.rt:43:49
 add-later-2 : tie.Need-add-later-2
 add-later-2 c = search needs
 
--- src/before.rt:43:44
+-- src/lib.rt:43:44
 mul-later-2 : tie.Need-mul-later-2
 mul-later-2 c = search needs
 
--- src/before.rt:43:44
+-- src/lib.rt:43:44
 array-read-later-2 : tie.Need-array-read-later-2
 array-read-later-2 c = search needs
 
--- src/before.rt:43:6
+-- src/lib.rt:43:6
 later-requires : tie.Need-later-requires
 later-requires c κs = search needs
 
--- src/before.rt:36:1
+-- src/lib.rt:36:1
 returns-2 : tie.Need-returns-2
-unfolding swift.due
+unfolding quiet.due
 returns-2 c = rw (← c .before .before .pre .1, no-eq (c .before .if1 .left), ← c .later .ensures)
 
 pub due-spec : {M : Type 1} → statement M

@@ -1,0 +1,41 @@
+-- What keeps a step from being a common one: something that comes before the instruction, or a slice that ends at a jump.
+use Prim.Native.Nat.{ℕ, zero, suc, _+_}
+use mathlib.Core.Bool.{Bool, true, false, not}
+use mathlib.Core.List.{List}
+use lib.ListN.{getD}
+use Rattle.rules.specs.Tests.{pick, ifLe, ifEq, ifSet}
+use Rattle.rules.specs.Words.{later}
+use Rattle.rules.specs.Core.{priorityOf, gotoSNPBit}
+use Rattle.rules.specs.Stack as stack
+use Rattle.rules.specs.Registers.{oreg, statusReg, clockReg, tnextReg, sliceReg, flagsReg, tEnabled, idleFlag, haltedFlag, channelReg, runRequest, readyRequest, linkChans}
+use Rattle.rules.specs.Scheduling.{sliceLength}
+use Rattle.rules.specs.declared.Core.{Core}
+
+-- ---- what may come before an instruction
+
+-- no channel has a request
+unfoldable pub calm : ℕ → ℕ → List ℕ → Bool
+calm c zero r = true
+calm c (suc n) r = ifSet (runRequest + readyRequest) (getD r (channelReg c) 0) false (calm (suc c) n r)
+
+-- a timer is enabled and its time has come
+unfoldable pub due : ℕ → List ℕ → Bool
+due queue r =
+    ifSet (tEnabled queue) (getD r flagsReg 0) (not (later (getD r (tnextReg queue) 0) (getD r (clockReg queue) 0))) false
+
+-- between instructions: no request, no timer
+unfoldable pub unasked : List ℕ → Bool
+unasked r = pick (calm 0 linkChans r) (pick (due 0 r) false (not (due 1 r))) false
+
+-- not halted, not idle, GotoSNP clear; and between instructions unasked
+unfoldable pub quiet : List ℕ → Bool
+quiet r =
+    ifSet haltedFlag (getD r flagsReg 0) false
+    (ifSet idleFlag (getD r flagsReg 0) false
+    (ifSet gotoSNPBit (getD r statusReg 0) false (ifEq (getD r oreg 0) 0 (unasked r) true)))
+
+-- a slice ends at a jump, unless the process is high, or the clocks stand, or the slice is short
+unfoldable pub slices : Core → List ℕ → Bool
+slices s r =
+    ifEq (priorityOf (s .wdesc)) 0 false
+    (ifSet stack.clocksRun (getD r flagsReg 0) (ifLe sliceLength (getD r sliceReg 0) true false) false)
