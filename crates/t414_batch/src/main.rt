@@ -19,115 +19,45 @@
 //
 // A case that the end of the input cuts short, an unknown call or a length past the limits ends the program: one line on standard
 // error, and no response for that case.
-mod bytes;
-mod case;
-
-use bytes::move_down;
-use case::Head;
-use case::State;
+//
+// Here are the calls and the loop; reading and writing are in the crate cases, which knows no call.
+use cases::case::Head;
+use cases::case::State;
+use cases::place::Place;
+use rules::Machine;
+use rules::Reply;
 ghost use Prim.Native.Nat.{_+_, _*_, _≤_};
 ghost use mathlib.Core.Path.{_≡_};
 ghost use lib.ListN.{length};
-ghost use Rattle.t414_batch.specs.Sizes.{caseHead, mostWords, mostJournal, mostResponse, block};
+ghost use Rattle.cases.specs.Sizes.{caseHead, mostWords, mostJournal, mostResponse};
 
-// Bytes of each buffer; the longest case and the longest response have fewer.
-const BLOCK: usize = 524288;
-
-// input[at..end] is unread, output[..out] is unwritten, and count cases are answered.
-struct Place {
-    at: usize,
-    end: usize,
-    out: usize,
-    count: u64,
-    state: State,
-}
-
-// One read, of at most as many bytes as buf has.
-fn read_some(buf: &mut [u8]) -> usize
-    ensures { λ r. ⌜ r ≤ length (now (buf .exit)) ⌝ }
-{
-    let got = libc::read(0, buf);
-    io::count(got, buf)
-}
-
-// What to do after a read of got bytes, where kept are unread.
-fn after_read(kept: usize, got: usize) -> State {
-    if got > 0 {
-        State::Look
-    } else if kept > 0 {
-        State::CutShort
-    } else {
-        State::Ended
+// The call; one outside 0 to 7 is seen before.
+fn reply(h: Head, m: Machine, mem: &mut [u32], journal: &mut [u32], code: &[u8]) -> Reply {
+    let call = h.call;
+    match call {
+        0 => t414::fresh(mem, journal, code),
+        1 => t414::step(m, mem, journal),
+        2 => t414::tick(m, mem, journal),
+        3 => t414::take(m, mem, journal, h.channel),
+        4 => t414::give(m, mem, journal, h.channel, h.byte),
+        5 => t414::event(m, mem, journal),
+        6 => t414::undo(m, mem, journal),
+        _ => t414::clear(m, mem, journal),
     }
 }
 
-// Where input is wanted, moves the unread bytes to the front and reads more after them. Where none come, the input has ended.
-fn refill(p: Place, input: &mut [u8]) -> Place
-    requires { ⌜ (p .at ≤ p .end) × (p .end ≤ length (now input)) ⌝ }
-    ensures { λ r. ⌜ (r .at ≤ r .end) × (r .end ≤ length (now (input .exit))) × (r .out ≡ p .out) ⌝ }
+// Makes the call of the case h at the byte at of input; mem and journal are as long as the case says.
+fn ask(h: Head, input: &[u8], at: usize, mem: &mut [u32], journal: &mut [u32]) -> Reply
+    requires { ⌜ at + h .from + h .code ≤ length (now input) ⌝ }
+    requires { ⌜ h .from ≡ caseHead + 4 * length (now mem) + 4 * length (now journal) ⌝ }
 {
-    let s = p.state;
-    let State::Read = s else {
-        return p;
-    };
-    let at = p.at;
-    let kept = p.end - at;
-    move_down(input, at, kept);
-    let got = read_some(&mut input[kept..]);
-    let state = after_read(kept, got);
-    Place {
-        at: 0,
-        end: kept + got,
-        out: p.out,
-        count: p.count,
-        state: state,
-    }
+    let m = cases::case::load(input, at, mem, journal);
+    let code = at + h.from;
+    let end = code + h.code;
+    reply(h, m, mem, journal, &input[code..end])
 }
 
-// Writes what is unwritten.
-fn flush(p: Place, output: &[u8]) -> Place
-    requires { ⌜ p .out ≤ length (now output) ⌝ }
-    ensures { λ r. ⌜ (r .at ≡ p .at) × (r .end ≡ p .end) × (r .out ≡ 0) ⌝ }
-{
-    let out = p.out;
-    let done = io::write_all(1, &output[..out]);
-    let s = p.state;
-    let state = if done { s } else { State::Unwritten };
-    Place {
-        at: p.at,
-        end: p.end,
-        out: 0,
-        count: p.count,
-        state: state,
-    }
-}
-
-// Makes room for any response.
-fn make_room(p: Place, output: &[u8]) -> Place
-    requires { ⌜ (p .out ≤ length (now output)) × (length (now output) ≡ block) ⌝ }
-    ensures { λ r. ⌜ (r .at ≡ p .at) × (r .end ≡ p .end) × (r .out + mostResponse ≤ block) ⌝ }
-{
-    if output.len() - p.out < case::MOST_RESPONSE {
-        return flush(p, output);
-    }
-    p
-}
-
-// The place after the case h.
-fn after(p: Place, h: Head) -> Place
-    requires { ⌜ (p .at + h .size ≤ p .end) × (p .out + mostResponse ≤ block) × (h .words ≤ mostWords) × (h .journal ≤ mostJournal) ⌝ }
-    ensures { λ r. ⌜ (r .at ≤ r .end) × (r .end ≡ p .end) × (r .out ≤ p .out + mostResponse) ⌝ }
-{
-    Place {
-        at: p.at + h.size,
-        end: p.end,
-        out: p.out + case::RESPONSE_HEAD + 4 * h.words + 4 * h.journal,
-        count: std::num::wrapping_add_u64(p.count, 1),
-        state: State::Look,
-    }
-}
-
-// Answers the case h at the place at.
+// Answers the case h at the place p.
 fn answered(
     p: Place,
     h: Head,
@@ -136,50 +66,37 @@ fn answered(
     mem: &mut [u32],
     journal: &mut [u32],
 ) -> Place
-    requires { ⌜ (p .at + h .size ≤ p .end) × (p .end ≤ length (now input)) × (p .out + mostResponse ≤ block) × (length (now output) ≡ block) ⌝ }
-    requires { ⌜ (length (now mem) ≡ mostWords) × (length (now journal) ≡ mostJournal) ⌝ }
-    requires { ⌜ (h .words ≤ mostWords) × (h .journal ≤ mostJournal) × (caseHead + 4 * h .words + 4 * h .journal + h .code ≤ h .size) ⌝ }
-    ensures { λ r. ⌜ (r .at ≤ r .end) × (r .end ≡ p .end) × (r .out ≤ p .out + mostResponse) ⌝ }
+    requires { ⌜ (p .at + h .size ≤ p .end) × (p .end ≤ length (now input)) × (p .out + mostResponse ≤ length (now output)) ⌝ }
+    requires { ⌜ (length (now mem) ≤ mostWords) × (length (now journal) ≤ mostJournal) ⌝ }
+    requires { ⌜ (h .from ≡ caseHead + 4 * length (now mem) + 4 * length (now journal)) × (h .from + h .code ≤ h .size) ⌝ }
+    ensures { λ r. ⌜ (r .at ≤ r .end) × (r .end ≡ p .end) × (r .out ≤ length (now (output .exit))) ⌝ }
 {
-    let words = h.words;
-    let records = h.journal;
-    case::answer(
-        h,
-        input,
-        p.at,
-        &mut mem[..words],
-        &mut journal[..records],
-        output,
-        p.out,
-    );
-    after(p, h)
+    let r = ask(h, input, p.at, mem, journal);
+    cases::place::answered(p, h, r, mem, journal, output)
 }
 
-fn held(p: Place, s: State) -> Place
-    ensures { λ r. ⌜ (r .at ≡ p .at) × (r .end ≡ p .end) × (r .out ≡ p .out) ⌝ }
-{
-    Place {
-        at: p.at,
-        end: p.end,
-        out: p.out,
-        count: p.count,
-        state: s,
-    }
-}
-
-// Answers the case at the place at, if it can be answered, and says what to do next.
+// Answers the case at the place p, if it can be answered, and says what to do next.
 fn one(p: Place, input: &[u8], output: &mut [u8], mem: &mut [u32], journal: &mut [u32]) -> Place
-    requires { ⌜ (p .at ≤ p .end) × (p .end ≤ length (now input)) × (p .out + mostResponse ≤ block) × (length (now output) ≡ block) ⌝ }
-    requires { ⌜ (length (now mem) ≡ mostWords) × (length (now journal) ≡ mostJournal) ⌝ }
-    ensures { λ r. ⌜ (r .at ≤ r .end) × (r .end ≡ p .end) × (r .out ≤ p .out + mostResponse) ⌝ }
+    requires { ⌜ (p .at ≤ p .end) × (p .end ≤ length (now input)) × (p .out + mostResponse ≤ length (now output)) ⌝ }
+    requires { ⌜ (mostWords ≤ length (now mem)) × (mostJournal ≤ length (now journal)) ⌝ }
+    ensures { λ r. ⌜ (r .at ≤ r .end) × (r .end ≡ p .end) × (r .out ≤ length (now (output .exit))) ⌝ }
 {
     let s = p.state;
-    let h = case::look(s, input, p.at, p.end);
+    let h = cases::case::look(s, input, p.at, p.end);
     if h.size == 0 {
         let t = h.state;
-        return held(p, t);
+        return cases::place::held(p, t);
     }
-    answered(p, h, input, output, mem, journal)
+    let words = h.words;
+    let records = h.journal;
+    answered(
+        p,
+        h,
+        input,
+        output,
+        &mut mem[..words],
+        &mut journal[..records],
+    )
 }
 
 fn going(p: Place) -> bool {
@@ -193,53 +110,24 @@ fn going(p: Place) -> bool {
 
 // Goes on while there is something to do. Nothing bounds the input, so the loop has a count of turns that no run can use up.
 fn all(input: &mut [u8], output: &mut [u8], mem: &mut [u32], journal: &mut [u32]) -> Place
-    requires { ⌜ (length (now output) ≡ block) × (length (now mem) ≡ mostWords) × (length (now journal) ≡ mostJournal) ⌝ }
+    requires { ⌜ (mostResponse ≤ length (now output)) × (mostWords ≤ length (now mem)) × (mostJournal ≤ length (now journal)) ⌝ }
     ensures { λ r. ⌜ r .out ≤ length (now (output .exit)) ⌝ }
 {
-    let mut p = Place {
-        at: 0,
-        end: 0,
-        out: 0,
-        count: 0,
-        state: State::Read,
-    };
+    let mut p = cases::place::start();
     let mut turns = u64::MAX;
     while turns > 0 && going(p) {
-        p = refill(p, input);
-        p = make_room(p, output);
+        p = cases::place::ready(p, input, output);
         p = one(p, input, output, mem, journal);
         turns -= 1;
     }
     p
 }
 
-// One line that names the case after the answered ones.
-fn complain(count: u64, what: &[u8]) {
-    io::write_all(2, b"t414_batch: case ");
-    io::print_decimal(2, std::num::wrapping_add_u64(count, 1));
-    io::write_all(2, b": ");
-    io::write_all(2, what);
-}
-
-fn report(p: Place) {
-    let s = p.state;
-    match s {
-        State::CutShort => complain(p.count, b"cut short by the end of the input\n"),
-        State::UnknownCall => complain(p.count, b"the call is not one of 0 to 7\n"),
-        State::TooLong => complain(
-            p.count,
-            b"more than 16400 words, 65600 journal words or 65600 code bytes\n",
-        ),
-        State::Unwritten => complain(p.count, b"the responses before it cannot be written\n"),
-        _ => {}
-    }
-}
-
 fn main() {
-    let mut input = [0u8; BLOCK];
-    let mut output = [0u8; BLOCK];
-    let mut mem = [0u32; case::WORDS];
-    let mut journal = [0u32; case::JOURNAL];
+    let mut input = cases::room::bytes();
+    let mut output = cases::room::bytes();
+    let mut mem = cases::room::memory();
+    let mut journal = cases::room::journal();
     let p = all(&mut input, &mut output, &mut mem, &mut journal);
-    report(flush(p, &output));
+    cases::place::finish(p, &output);
 }

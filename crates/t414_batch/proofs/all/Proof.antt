@@ -1,4 +1,3 @@
-use Rattle.t414_batch.specs.Sizes.{block}
 use native.Mathlib.Omega.{arith}
 use Prim.Native.Nat.{_≤_}
 use lib.ListN.{length}
@@ -8,10 +7,13 @@ use Rattle.t414_batch.proofs.all.Statement.{statement}
 use Rattle.t414_batch.proofs.all.Tie as tie
 
 abbrev Inv-loop : tie.InvT-loop
-Inv-loop input₀ output₀ mem₀ journal₀ p₀ turns₀ input output mem journal p turns = (p .at ≤ p .end) × (p .end ≤ length input) × (p .out ≤ length output) × (length output ≡ block) × (length input ≡ length input₀) × (length output ≡ length output₀) × (length mem ≡ length mem₀) × (length journal ≡ length journal₀)
+Inv-loop input₀ output₀ mem₀ journal₀ p₀ turns₀ input output mem journal p turns = (p .at ≤ p .end) × (p .end ≤ length input) × (p .out ≤ length output) × (length input ≡ length input₀) × (length output ≡ length output₀) × (length mem ≡ length mem₀) × (length journal ≡ length journal₀)
 
 abbrev μ-loop : tie.MeasureT-loop
 μ-loop input₀ output₀ mem₀ journal₀ p₀ turns₀ input output mem journal p turns = turns
+
+start-requires : tie.Need-start-requires Inv-loop μ-loop
+start-requires c κs = search needs
 
 loop-holds : tie.Need-loop-holds Inv-loop μ-loop
 loop-holds c = search needs
@@ -19,11 +21,8 @@ loop-holds c = search needs
 going-requires : tie.Need-going-requires Inv-loop μ-loop
 going-requires c κs = search needs
 
-refill-requires : tie.Need-refill-requires Inv-loop μ-loop
-refill-requires c κs = search needs
-
-make-room-requires : tie.Need-make-room-requires Inv-loop μ-loop
-make-room-requires c κs = search needs
+ready-requires : tie.Need-ready-requires Inv-loop μ-loop
+ready-requires c κs = search needs
 
 one-requires : tie.Need-one-requires Inv-loop μ-loop
 one-requires c κs = search needs
@@ -35,8 +34,7 @@ loop-less : tie.Need-loop-less Inv-loop μ-loop
 loop-less c = search needs
 
 loop-again : tie.Need-loop-again Inv-loop μ-loop
-loop-again c =
-    (omega arith, omega arith, omega arith, omega arith, omega arith, omega arith, omega arith, omega arith)
+loop-again c = (omega arith, omega arith, omega arith, omega arith, omega arith, omega arith, omega arith)
 
 same-length : tie.Need-same-length Inv-loop μ-loop
 same-length c = search needs
@@ -74,10 +72,10 @@ all-spec =
     (tie.spec
     Inv-loop
     μ-loop
+    start-requires
     loop-holds
     going-requires
-    refill-requires
-    make-room-requires
+    ready-requires
     one-requires
     sub-turns
     loop-less

@@ -1,4 +1,4 @@
-// One case: its head, the call that it asks for, and the response.
+// One case: its head, its machine, and the response.
 use crate::bytes::double;
 use crate::bytes::give_words;
 use crate::bytes::low;
@@ -11,7 +11,7 @@ use rules::Reply;
 ghost use Prim.Native.Nat.{_+_, _*_, _^_, _≤_, _<_};
 ghost use mathlib.Core.Path.{_≡_};
 ghost use lib.ListN.{length};
-ghost use Rattle.t414_batch.specs.Sizes.{machineSize, caseHead, responseHead, mostWords, mostJournal};
+ghost use Rattle.cases.specs.Sizes.{machineSize, caseHead, responseHead, mostWords, mostJournal};
 
 // The most that a case may ask for.
 pub const WORDS: usize = 16400;
@@ -23,9 +23,9 @@ const CODE: usize = 65600;
 // Bytes of a case before its memory, and of a response; bytes of the longest response.
 const CASE_HEAD: usize = 24 + 16 + 4 * rules::REGISTERS;
 
-pub const RESPONSE_HEAD: usize = 8 + 16 + 4 * rules::REGISTERS;
+const RESPONSE_HEAD: usize = 8 + 16 + 4 * rules::REGISTERS;
 
-pub const MOST_RESPONSE: usize = RESPONSE_HEAD + 4 * WORDS + 4 * JOURNAL;
+pub(crate) const MOST_RESPONSE: usize = RESPONSE_HEAD + 4 * WORDS + 4 * JOURNAL;
 
 // What comes next: a case may be looked for, input is wanted, or there is a reason to stop.
 pub enum State {
@@ -38,7 +38,8 @@ pub enum State {
     Unwritten,
 }
 
-// The first six numbers of a case, and its bytes in all; or, with size 0, why there is none to answer.
+// The first six numbers of a case, where its code stands in it, and its bytes in all; or, with size 0, why there is none to
+// answer.
 pub struct Head {
     pub call: u32,
     pub channel: u32,
@@ -46,6 +47,7 @@ pub struct Head {
     pub words: usize,
     pub journal: usize,
     pub code: usize,
+    pub from: usize,
     pub size: usize,
     pub state: State,
 }
@@ -60,6 +62,7 @@ fn none(s: State) -> Head
         words: 0,
         journal: 0,
         code: 0,
+        from: 0,
         size: 0,
         state: s,
     }
@@ -73,11 +76,12 @@ fn number(x: u32) -> usize
 
 fn head_of(input: &[u8], at: usize) -> Head
     requires { ⌜ at + 24 ≤ length (now input) ⌝ }
-    ensures { λ r. ⌜ caseHead + 4 * r .words + 4 * r .journal + r .code ≤ r .size ⌝ }
+    ensures { λ r. ⌜ (r .from ≡ caseHead + 4 * r .words + 4 * r .journal) × (r .from + r .code ≤ r .size) ⌝ }
 {
     let words = number(word(input, at + 12));
     let journal = number(word(input, at + 16));
     let code = number(word(input, at + 20));
+    let from = CASE_HEAD + 4 * words + 4 * journal;
     Head {
         call: word(input, at),
         channel: word(input, at + 4),
@@ -85,7 +89,8 @@ fn head_of(input: &[u8], at: usize) -> Head
         words: words,
         journal: journal,
         code: code,
-        size: CASE_HEAD + 4 * words + 4 * journal + (code + 3) / 4 * 4,
+        from: from,
+        size: from + (code + 3) / 4 * 4,
         state: State::Look,
     }
 }
@@ -93,7 +98,7 @@ fn head_of(input: &[u8], at: usize) -> Head
 // The case at the place at, if it is whole and within the limits.
 pub fn look(s: State, input: &[u8], at: usize, end: usize) -> Head
     requires { ⌜ (at ≤ end) × (end ≤ length (now input)) ⌝ }
-    ensures { λ r. ⌜ (0 < r .size → (at + r .size ≤ end) × (r .words ≤ mostWords) × (r .journal ≤ mostJournal) × (caseHead + 4 * r .words + 4 * r .journal + r .code ≤ r .size)) ⌝ }
+    ensures { λ r. ⌜ (0 < r .size → (at + r .size ≤ end) × (r .words ≤ mostWords) × (r .journal ≤ mostJournal) × (r .from ≡ caseHead + 4 * r .words + 4 * r .journal) × (r .from + r .code ≤ r .size)) ⌝ }
 {
     let State::Look = s else {
         return none(s);
@@ -134,19 +139,15 @@ fn machine(input: &[u8], at: usize) -> Machine
     }
 }
 
-// The call; one outside 0 to 7 is seen before.
-fn reply(h: Head, m: Machine, mem: &mut [u32], journal: &mut [u32], code: &[u8]) -> Reply {
-    let call = h.call;
-    match call {
-        0 => t414::fresh(mem, journal, code),
-        1 => t414::step(m, mem, journal),
-        2 => t414::tick(m, mem, journal),
-        3 => t414::take(m, mem, journal, h.channel),
-        4 => t414::give(m, mem, journal, h.channel, h.byte),
-        5 => t414::event(m, mem, journal),
-        6 => t414::undo(m, mem, journal),
-        _ => t414::clear(m, mem, journal),
-    }
+// Takes the case at the byte at of input: its machine, and its words into mem and journal, which are as long as the case says.
+pub fn load(input: &[u8], at: usize, mem: &mut [u32], journal: &mut [u32]) -> Machine
+    requires { ⌜ at + caseHead + 4 * length (now mem) + 4 * length (now journal) ≤ length (now input) ⌝ }
+    ensures { λ r. ⌜ (length (now (mem .exit)) ≡ length (now (mem .entry))) × (length (now (journal .exit)) ≡ length (now (journal .entry))) ⌝ }
+{
+    let second = at + CASE_HEAD + 4 * mem.len();
+    take_words(input, at + CASE_HEAD, mem);
+    take_words(input, second, journal);
+    machine(input, at)
 }
 
 fn wide(x: u8) -> u32 {
@@ -173,41 +174,20 @@ fn give_reply(r: Reply, output: &mut [u8], out: usize)
     give_machine(m, output, out + 8);
 }
 
-// Makes the call of the case at the byte at of input; mem and journal are as long as the case says.
-fn ask(h: Head, input: &[u8], at: usize, mem: &mut [u32], journal: &mut [u32]) -> Reply
-    requires { ⌜ at + caseHead + 4 * length (now mem) + 4 * length (now journal) + h .code ≤ length (now input) ⌝ }
-{
-    let second = at + CASE_HEAD + 4 * mem.len();
-    let code = second + 4 * journal.len();
-    let end = code + h.code;
-    take_words(input, at + CASE_HEAD, mem);
-    take_words(input, second, journal);
-    reply(h, machine(input, at), mem, journal, &input[code..end])
-}
-
-// Writes the response at the byte out of output.
-fn respond(r: Reply, mem: &[u32], journal: &[u32], output: &mut [u8], out: usize)
+// Writes the response at the byte out of output, and answers where it ends.
+pub(crate) fn respond(
+    r: Reply,
+    mem: &[u32],
+    journal: &[u32],
+    output: &mut [u8],
+    out: usize,
+) -> usize
     requires { ⌜ out + responseHead + 4 * length (now mem) + 4 * length (now journal) ≤ length (now output) ⌝ }
+    ensures { λ r. ⌜ r ≡ out + responseHead + 4 * length (now (mem .entry)) + 4 * length (now (journal .entry)) ⌝ }
 {
     let second = out + RESPONSE_HEAD + 4 * mem.len();
     give_reply(r, output, out);
     give_words(mem, output, out + RESPONSE_HEAD);
     give_words(journal, output, second);
-}
-
-// One case, from the byte at of input on, answered from the byte out of output on.
-pub fn answer(
-    h: Head,
-    input: &[u8],
-    at: usize,
-    mem: &mut [u32],
-    journal: &mut [u32],
-    output: &mut [u8],
-    out: usize,
-)
-    requires { ⌜ at + caseHead + 4 * length (now mem) + 4 * length (now journal) + h .code ≤ length (now input) ⌝ }
-    requires { ⌜ out + responseHead + 4 * length (now mem) + 4 * length (now journal) ≤ length (now output) ⌝ }
-{
-    let r = ask(h, input, at, mem, journal);
-    respond(r, mem, journal, output, out);
+    second + 4 * journal.len()
 }

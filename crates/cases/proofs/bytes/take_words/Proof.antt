@@ -3,8 +3,8 @@ use lib.ListN.{length}
 use mathlib.Core.Path.{_≡_}
 use native.Mathlib.Omega.{arith}
 use borrow.Author.Needs.{needs}
-use Rattle.t414_batch.proofs.bytes.take_words.Statement.{statement}
-use Rattle.t414_batch.proofs.bytes.take_words.Tie as tie
+use Rattle.cases.proofs.bytes.take_words.Statement.{statement}
+use Rattle.cases.proofs.bytes.take_words.Tie as tie
 
 abbrev Inv-loop : tie.InvT-loop
 Inv-loop src k dst₀ i₀ dst i = length dst ≡ length dst₀

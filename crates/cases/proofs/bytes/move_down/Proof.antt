@@ -2,8 +2,8 @@ use Prim.Native.Nat.{_-_}
 use lib.ListN.{length}
 use mathlib.Core.Path.{_≡_}
 use borrow.Author.Needs.{needs}
-use Rattle.t414_batch.proofs.bytes.move_down.Statement.{statement}
-use Rattle.t414_batch.proofs.bytes.move_down.Tie as tie
+use Rattle.cases.proofs.bytes.move_down.Statement.{statement}
+use Rattle.cases.proofs.bytes.move_down.Tie as tie
 
 abbrev Inv-loop : tie.InvT-loop
 Inv-loop s₀ at n i₀ s i = length s ≡ length s₀

@@ -1,8 +1,8 @@
 use lib.ListN.{length-set}
 use native.Mathlib.Omega.{arith}
 use borrow.Author.Needs.{needs}
-use Rattle.t414_batch.proofs.bytes.put_word.Statement.{statement}
-use Rattle.t414_batch.proofs.bytes.put_word.Tie as tie
+use Rattle.cases.proofs.bytes.put_word.Statement.{statement}
+use Rattle.cases.proofs.bytes.put_word.Tie as tie
 
 low-requires : tie.Need-low-requires
 low-requires c κs = search needs

@@ -6,18 +6,18 @@ fn wide(x: u8) -> u32 {
     x as u32
 }
 
-pub fn low(x: u32) -> u8 {
+pub(crate) fn low(x: u32) -> u8 {
     (x % 256) as u8
 }
 
 // The word at the byte k of src.
-pub fn word(src: &[u8], k: usize) -> u32
+pub(crate) fn word(src: &[u8], k: usize) -> u32
     requires { ⌜ k + 4 ≤ length (now src) ⌝ }
 {
     wide(src[k]) | (wide(src[k + 1]) << 8) | (wide(src[k + 2]) << 16) | (wide(src[k + 3]) << 24)
 }
 
-pub fn put_word(dst: &mut [u8], k: usize, x: u32)
+pub(crate) fn put_word(dst: &mut [u8], k: usize, x: u32)
     requires { ⌜ k + 4 ≤ length (now dst) ⌝ }
 {
     dst[k] = low(x);
@@ -27,7 +27,7 @@ pub fn put_word(dst: &mut [u8], k: usize, x: u32)
 }
 
 // Fills dst with the words of src from the byte k on.
-pub fn take_words(src: &[u8], k: usize, dst: &mut [u32])
+pub(crate) fn take_words(src: &[u8], k: usize, dst: &mut [u32])
     requires { ⌜ k + 4 * length (now dst) ≤ length (now src) ⌝ }
 {
     let mut i = 0;
@@ -38,7 +38,7 @@ pub fn take_words(src: &[u8], k: usize, dst: &mut [u32])
 }
 
 // Lays the words of src out in dst from the byte k on.
-pub fn give_words(src: &[u32], dst: &mut [u8], k: usize)
+pub(crate) fn give_words(src: &[u32], dst: &mut [u8], k: usize)
     requires { ⌜ k + 4 * length (now src) ≤ length (now dst) ⌝ }
 {
     let mut i = 0;
@@ -57,13 +57,13 @@ fn short(x: u64) -> u32 {
 }
 
 // The number of 64 bits at the byte k of src.
-pub fn double(src: &[u8], k: usize) -> u64
+pub(crate) fn double(src: &[u8], k: usize) -> u64
     requires { ⌜ k + 8 ≤ length (now src) ⌝ }
 {
     long(word(src, k)) | (long(word(src, k + 4)) << 32)
 }
 
-pub fn put_double(dst: &mut [u8], k: usize, x: u64)
+pub(crate) fn put_double(dst: &mut [u8], k: usize, x: u64)
     requires { ⌜ k + 8 ≤ length (now dst) ⌝ }
 {
     put_word(dst, k, short(x));
@@ -71,7 +71,7 @@ pub fn put_double(dst: &mut [u8], k: usize, x: u64)
 }
 
 // Moves n bytes of s from the byte at on to its start.
-pub fn move_down(s: &mut [u8], at: usize, n: usize)
+pub(crate) fn move_down(s: &mut [u8], at: usize, n: usize)
     requires { ⌜ at + n ≤ length (now s) ⌝ }
 {
     if at == 0 {

@@ -2,8 +2,8 @@ use mathlib.Core.Path.{_≡_}
 use lib.ListN.{length}
 use native.Mathlib.Omega.{arith}
 use borrow.Author.Needs.{needs}
-use Rattle.t414_batch.proofs.case.give_machine.Statement.{statement}
-use Rattle.t414_batch.proofs.case.give_machine.Tie as tie
+use Rattle.cases.proofs.case.give_machine.Statement.{statement}
+use Rattle.cases.proofs.case.give_machine.Tie as tie
 
 slice-aggregate-give-words : tie.Need-slice-aggregate-give-words
 slice-aggregate-give-words c = search needs

@@ -2,8 +2,8 @@ use mathlib.Core.Path.{sym}
 use lib.Seq.{length-take-le}
 use native.Mathlib.Omega.{arith}
 use borrow.Author.Needs.{needs}
-use Rattle.t414_batch.proofs.flush.Statement.{statement}
-use Rattle.t414_batch.proofs.flush.Tie as tie
+use Rattle.cases.proofs.place.flush.Statement.{statement}
+use Rattle.cases.proofs.place.flush.Tie as tie
 
 slice-aggregate-write-all : tie.Need-slice-aggregate-write-all
 slice-aggregate-write-all c = sym (length-take-le _ _ (omega arith))
