@@ -1,4 +1,4 @@
-// The numbers that 01 gives to the answers, for the programs, which write them.
+// Numbers of 01 for the programs: those of the answers, and how long a run is.
 use rules::Answer;
 ghost use mathlib.Core.Path.{_≡_};
 ghost use Rattle.rules.specs.Calls.{numberOf};
@@ -21,4 +21,13 @@ pub fn number_of(a: Answer) -> u32
         Answer::Stop => 11,
         Answer::JournalFull => 12,
     }
+}
+
+// The most steps that the program of 01 makes.
+const MOST_STEPS: u64 = 100;
+
+pub fn most_steps() -> u64
+    ensures { λ r. ⌜ r ≡ 100 ⌝ }
+{
+    MOST_STEPS
 }

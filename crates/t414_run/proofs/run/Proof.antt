@@ -9,10 +9,13 @@ use Rattle.t414_run.proofs.run.Statement.{statement}
 use Rattle.t414_run.proofs.run.Tie as tie
 
 abbrev Inv-loop : tie.InvT-loop
-Inv-loop mem₀ journal₀ machine₀ steps₀ mem journal machine steps = (run (100 - steps) steps machine mem journal ≡ run 100 0 machine₀ mem₀ journal₀) × (steps ≤ 100) × (length mem ≡ length mem₀) × (length journal ≡ length journal₀)
+Inv-loop mem₀ journal₀ most machine₀ steps₀ mem journal machine steps = (run (100 - steps) steps machine mem journal ≡ run 100 0 machine₀ mem₀ journal₀) × (steps ≤ 100) × (length mem ≡ length mem₀) × (length journal ≡ length journal₀)
 
 abbrev μ-loop : tie.MeasureT-loop
-μ-loop mem₀ journal₀ machine₀ steps₀ mem journal machine steps = 100 - steps
+μ-loop mem₀ journal₀ most machine₀ steps₀ mem journal machine steps = 100 - steps
+
+most-steps-requires : tie.Need-most-steps-requires Inv-loop μ-loop
+most-steps-requires c κs = search needs
 
 loop-holds : tie.Need-loop-holds Inv-loop μ-loop
 loop-holds c = (refl, omega arith, refl, refl)
@@ -64,6 +67,7 @@ run-spec =
     (tie.spec
     Inv-loop
     μ-loop
+    most-steps-requires
     loop-holds
     step-requires
     number-of-requires

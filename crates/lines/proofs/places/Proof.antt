@@ -1,7 +1,7 @@
 use Prim.Native.Nat.{_-_, _≤_}
 use borrow.Author.Needs.{needs}
-use Rattle.t414_run.proofs.places.Statement.{statement}
-use Rattle.t414_run.proofs.places.Tie as tie
+use Rattle.lines.proofs.places.Statement.{statement}
+use Rattle.lines.proofs.places.Tie as tie
 
 abbrev Inv-loop : tie.InvT-loop
 Inv-loop x k₀ rest₀ k rest = k ≤ 20

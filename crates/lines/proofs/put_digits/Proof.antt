@@ -4,8 +4,8 @@ use mathlib.Core.Path.{_≡_}
 use native.Mathlib.Nat.{mod-lt}
 use native.Mathlib.Omega.{arith}
 use borrow.Author.Needs.{needs}
-use Rattle.t414_run.proofs.put_digits.Statement.{statement}
-use Rattle.t414_run.proofs.put_digits.Tie as tie
+use Rattle.lines.proofs.put_digits.Statement.{statement}
+use Rattle.lines.proofs.put_digits.Tie as tie
 
 abbrev Inv-loop : tie.InvT-loop
 Inv-loop line₀ at k x base i₀ rest₀ line i rest = (length line ≡ length line₀) × (i ≤ k)

@@ -1,8 +1,8 @@
 use lib.ListN.{length-set}
 use native.Mathlib.Omega.{arith}
 use borrow.Author.Needs.{needs}
-use Rattle.t414_run.proofs.put_line.Statement.{statement}
-use Rattle.t414_run.proofs.put_line.Tie as tie
+use Rattle.lines.proofs.put_line.Statement.{statement}
+use Rattle.lines.proofs.put_line.Tie as tie
 
 put-stack-requires : tie.Need-put-stack-requires
 put-stack-requires c κs = search needs
