@@ -2,21 +2,23 @@
 use mathlib.Core.Path.{_≡_, refl, sym, ap, _∙_}
 use mathlib.Core.Bool.{Bool, true, false}
 use mathlib.Core.List.{List, [], _∷_, _++_}
-use Prim.Native.Nat.{ℕ, _+_, _≤_, _<_}
+use Prim.Native.Nat.{ℕ, zero, suc, _+_, _*_, _≤_, _<_}
 use native.Mathlib.Omega.{arith}
 use lib.ListN.{length, getD, set}
 use lib.Seq.{sets}
-use Rattle.rules.specs.Tests.{pick, ifEq}
+use Rattle.rules.specs.Tests.{pick}
 use Rattle.rules.specs.Registers.{registers, withCore}
 use Rattle.rules.specs.Memory.{Store, word, touched, stores}
 use Rattle.rules.specs.Journal.{olds, recordOf}
-use Rattle.rules.specs.Calls.{Outcome, machineOf, recorded, settled}
+use Rattle.rules.specs.Calls.{machineOf, recorded, settled}
 use Rattle.rules.specs.declared.Machine.{Machine}
 use Rattle.rules.proofs.Tests.{yes-eq}
 use Rattle.swift.specs.declared.Swift.{Swift}
 use Rattle.swift.specs.Swift.{swiftWork}
 use Rattle.brief.proofs.Single.{touched-none, touched-one, touched-past, stores-one, stores-past, stores-no}
 use Rattle.records.proofs.Written.{sets-append}
+use Rattle.laws.proofs.Touched.{length-olds}
+use Rattle.brief.specs.Count.{Counted, listed, made, storesOf}
 
 -- a machine by its parts
 pub machine-is : (x : Machine) (regs : List ℕ) (d u : ℕ) → (x .regs ≡ regs) × (x .depth ≡ d) × (x .used ≡ u) → x ≡ machineOf regs d u
@@ -28,33 +30,77 @@ tail-written j regs at n h =
     let b : at + length regs ≡ at + registers = omega arith in
     sym (rw (sets-append j at regs (n ∷ []), b))
 
-pub none-written : (j mem regs : List ℕ) (at : ℕ) → sets j at (regs ++ (0 ∷ [])) ≡ sets j at (recordOf mem regs [])
-unfolding recordOf olds
-none-written j mem regs at = refl
+-- ---- the words that a common step stores to
 
-pub one-written : (j mem regs : List ℕ) (i at : ℕ)
-    → sets (sets j at (i ∷ getD mem i 0 ∷ [])) (at + 2) (regs ++ (1 ∷ [])) ≡ sets j at (recordOf mem regs (i ∷ []))
-unfolding recordOf olds
-one-written j mem regs i at = sym (sets-append j at (i ∷ getD mem i 0 ∷ []) (regs ++ (1 ∷ [])))
+module _ (size : ℕ) (t : Swift) where
+  counted :
+      (n : ℕ) (ss : List Store)
+      → pick (t .stores) (word (t .index) (t .value) ∷ []) [] ≡ ss
+      → n ≤ 1
+      → (0 < n → t .index < size)
+      → listed n (t .index) ≡ touched size ss
+      → ((m : List ℕ) → length m ≡ size → made n (t .index) (t .value) m ≡ stores m ss)
+      → Counted size t n
+  counted n ss e k i l f = record { few = k; inside = i; touches = rw e l; makes = λ m h. rw e (f m h) }
+
+  pub counted-one : t .stores ≡ true → t .index < size → Counted size t 1
+  unfolding listed made
+  counted-one e h =
+      counted 1 (word (t .index) (t .value) ∷ []) (rw e) (omega arith) (λ k. h) (sym (touched-one size (t .index) (t .value) h))
+      (λ m l. sym (stores-one m (t .index) (t .value)))
+
+  pub counted-past : t .stores ≡ true → size ≤ t .index → Counted size t 0
+  unfolding listed made
+  counted-past e h =
+      counted 0 (word (t .index) (t .value) ∷ []) (rw e) (omega arith) (λ k. absurd (omega arith))
+      (sym (touched-past size (t .index) (t .value) h))
+      (λ m l. sym (stores-past m (t .index) (t .value) (omega arith)))
+
+  pub counted-none : t .stores ≡ false → Counted size t 0
+  unfolding listed made
+  counted-none e =
+      counted 0 [] (rw e) (omega arith) (λ k. absurd (omega arith)) (sym (touched-none size)) (λ m l. sym (stores-no m))
+
+pub listed-length : (n i : ℕ) → n ≤ 1 → length (listed n i) ≡ n
+unfolding listed
+listed-length zero i h = refl
+listed-length (suc zero) i h = refl
+listed-length (suc (suc n)) i h = absurd (omega arith)
+
+-- ---- what is written
+
+pub pair-none : (j mem : List ℕ) (i at n : ℕ) → n ≡ 0 → j ≡ sets j at (olds mem (listed n i))
+unfolding listed olds
+pair-none j mem i at n e = rw e
+
+pub pair-one : (j mem : List ℕ) (i at n : ℕ) → 0 < n → sets j at (i ∷ getD mem i 0 ∷ []) ≡ sets j at (olds mem (listed n i))
+unfolding listed olds
+pair-one j mem i at zero h = absurd (omega arith)
+pair-one j mem i at (suc n) h = refl
+
+pub made-none : (i v n : ℕ) (m : List ℕ) → n ≡ 0 → m ≡ made n i v m
+unfolding made
+made-none i v n m e = rw e
+
+pub made-one : (i v n : ℕ) (m : List ℕ) → 0 < n → set m i v ≡ made n i v m
+unfolding made
+made-one i v zero m h = absurd (omega arith)
+made-one i v (suc n) m h = refl
+
+-- pairs, registers and the number of pairs are the record
+pub record-written :
+    (j mem regs ks : List ℕ) (at n : ℕ)
+    → length ks ≡ n
+    → sets (sets j at (olds mem ks)) (at + 2 * n) (regs ++ (n ∷ [])) ≡ sets j at (recordOf mem regs ks)
+unfolding recordOf
+record-written j mem regs ks at n e =
+    let a : at + length (olds mem ks) ≡ at + 2 * n = omega (arith, length-olds mem ks) in
+    sym (rw (sets-append j at (olds mem ks) (regs ++ (length ks ∷ [])), a, e))
 
 -- ---- what a common step comes to
 
-module _ (m : Machine) (mem j : List ℕ) (t : Swift) where
-  abbrev Comes : List ℕ → List ℕ → Type 0
-  Comes ks after = recorded m mem j 0 (withCore (t .core) (m .regs)) ks after ≡ settled m mem j 0 (swiftWork (m .regs) t)
-
-  comes : (ss : List Store) (ks after : List ℕ)
-      → pick (t .stores) (word (t .index) (t .value) ∷ []) [] ≡ ss → touched (length mem) ss ≡ ks → stores mem ss ≡ after → Comes ks after
-  unfolding settled
-  comes ss ks after e f g = rw (yes-eq {a = 0} {b = 0} refl, e, f, g)
-
-  pub common-one : t .stores ≡ true → t .index < length mem → Comes (t .index ∷ []) (set mem (t .index) (t .value))
-  common-one e h =
-      comes (word (t .index) (t .value) ∷ []) _ _ (rw e) (touched-one (length mem) (t .index) (t .value) h) (stores-one mem (t .index) (t .value))
-
-  pub common-past : t .stores ≡ true → length mem ≤ t .index → Comes [] mem
-  common-past e h =
-      comes (word (t .index) (t .value) ∷ []) _ _ (rw e) (touched-past (length mem) (t .index) (t .value) h) (stores-past mem (t .index) (t .value) h)
-
-  pub common-none : t .stores ≡ false → Comes [] mem
-  common-none e = comes [] _ _ (rw e) (touched-none (length mem)) (stores-no mem)
+pub comes :
+    (m : Machine) (mem j : List ℕ) (t : Swift)
+    → recorded m mem j 0 (withCore (t .core) (m .regs)) (touched (length mem) (storesOf t)) (stores mem (storesOf t)) ≡ settled m mem j 0 (swiftWork (m .regs) t)
+unfolding settled
+comes m mem j t = rw (yes-eq {a = 0} {b = 0} refl)

@@ -5,8 +5,8 @@ use Prim.Native.Nat.{ℕ, zero, suc, _+_, _-_, _*_, _≤_, _<_}
 use native.Mathlib.Nat.{add-suc, suc-add, add-zero}
 use native.Mathlib.Omega.{arith}
 use native.Mathlib.Numerals.{add-one}
-use lib.ListN.{length, getD, set, take, length-append}
-use lib.Seq.{slice, sets, length-take-le, length-slice}
+use lib.ListN.{length, getD, set, take, drop, length-append, take-append-drop}
+use lib.Seq.{slice, sets, length-take-le, length-slice, take-length}
 use Rattle.rules.specs.Registers.{registers}
 use Rattle.rules.specs.Journal.{olds, recordOf}
 use Rattle.laws.proofs.Touched.{length-olds}
@@ -20,6 +20,16 @@ use Rattle.survey.proofs.Sorting.{range-length}
 pub sets-append : (l : List ℕ) (i : ℕ) (a b : List ℕ) → sets l i (a ++ b) ≡ sets (sets l i a) (i + length a) b
 sets-append l i [] b = rw (add-zero i)
 sets-append l i (x ∷ a) b = rw (add-suc i (length a), ← suc-add i (length a)) (sets-append (set l i x) (suc i) a b)
+
+-- a list of n words written in two parts, cut at k
+pub halves-written :
+    (j l : List ℕ) (at k n : ℕ) → length l ≡ n → k ≤ n → sets (sets j at (slice 0 k l)) (at + k) (slice k n l) ≡ sets j at l
+halves-written j l at k n e h =
+    let b : at + length (take k l) ≡ at + k = omega (arith, length-take-le k l (omega arith)) in
+    let whole : take n l ≡ l = rw (← e) (take-length l) in
+    let f : sets (sets j at (take k l)) (at + k) (drop k l) ≡ sets j at (take k l ++ drop k l) =
+    sym (rw (sets-append j at (take k l) (drop k l), b)) in
+    rw whole (f ∙ rw (take-append-drop k l))
 
 olds-append : (m a b : List ℕ) → olds m (a ++ b) ≡ olds m a ++ olds m b
 unfolding olds

@@ -12,6 +12,9 @@ ghost use Rattle.laws.specs.Lists.{Below};
 ghost use Rattle.survey.specs.Indices.{range};
 ghost use Rattle.survey.specs.Outline.{Outlined, listed};
 
+// How many registers are written first.
+const HALF: usize = 23;
+
 // Writes the pairs of the words that ix lists from f up to t.
 fn put_part(journal: &mut [u32], mem: &[u32], ix: [u32; 16], f: usize, t: usize, at: usize)
     requires { ⌜ (f ≤ t) × (t ≤ 16) × (at + 2 * (t - f) ≤ length (now journal)) × Below (length (now mem)) (slice f t ix) ⌝ }
@@ -75,18 +78,28 @@ fn put_pairs(journal: &mut [u32], mem: &[u32], o: Outline, at: usize)
     put_part(journal, mem, ix, mid, end, next);
 }
 
-// Writes the registers.
-pub fn put_regs(journal: &mut [u32], regs: [u32; REGISTERS], at: usize)
-    requires { ⌜ at + registers ≤ length (now journal) ⌝ }
-    ensures { λ _. ⌜ now (journal .exit) ≡ sets (now (journal .entry)) at regs ⌝ }
+// Writes the registers from f up to t.
+fn put_some(journal: &mut [u32], regs: [u32; REGISTERS], f: usize, t: usize, at: usize)
+    requires { ⌜ (f ≤ t) × (t ≤ registers) × (at + (t - f) ≤ length (now journal)) ⌝ }
+    ensures { λ _. ⌜ now (journal .exit) ≡ sets (now (journal .entry)) at (slice f t regs) ⌝ }
 {
     let mut w = at;
-    let mut k = 0;
-    while k < REGISTERS {
+    let mut k = f;
+    while k < t {
         journal[w] = regs[k];
         w += 1;
         k += 1;
     }
+}
+
+// Writes the registers, in two halves: a copy of up to 128 bytes is compiled to moves, a longer one to a call.
+pub fn put_regs(journal: &mut [u32], regs: [u32; REGISTERS], at: usize)
+    requires { ⌜ at + registers ≤ length (now journal) ⌝ }
+    ensures { λ _. ⌜ now (journal .exit) ≡ sets (now (journal .entry)) at regs ⌝ }
+{
+    let next = at + HALF;
+    put_some(journal, regs, 0, HALF, at);
+    put_some(journal, regs, HALF, REGISTERS, next);
 }
 
 // Writes the whole record, from used on.

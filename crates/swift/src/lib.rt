@@ -60,12 +60,9 @@ fn fetch(mem: &[u32], regs: [u32; REGISTERS], s: Core) -> Swift
     functions::cold()
 }
 
-// A common step, or that it is none.
+// The next instruction as a common step, or that it is none. It is the step of a machine that is quiet (crate quiet).
 pub fn common_step(mem: &[u32], regs: [u32; REGISTERS]) -> Swift
-    ensures { λ r. ⌜ r ≡ swift.swift (now (mem .entry)) regs ⌝ }
+    ensures { λ r. ⌜ r ≡ swift.fetch (now (mem .entry)) regs (registers.coreOf regs) ⌝ }
 {
-    if quiet::quiet(regs) {
-        return fetch(mem, regs, core_of(regs));
-    }
-    functions::cold()
+    fetch(mem, regs, core_of(regs))
 }

@@ -5,18 +5,26 @@ use mathlib.Core.List.{List}
 use Prim.Native.Nat.{ℕ, _≤_}
 use native.Mathlib.Omega.{arith}
 use lib.ListN.{length}
-use Rattle.rules.specs.Registers.{registers}
+use Rattle.rules.specs.Registers.{registers, coreOf}
 use Rattle.rules.specs.Work.{Work, begin}
 use Rattle.rules.specs.Step as steps
 use Rattle.rules.specs.Calls.{settled}
 use Rattle.rules.specs.declared.Machine.{Machine}
+use Rattle.quiet.specs.Quiet.{quiet}
 use Rattle.swift.specs.declared.Swift.{Swift}
 use Rattle.swift.specs.Swift as swift
 use Rattle.swift.proofs.Step.{swift-step}
 
-pub common-step-is : (m : Machine) (mem j : List ℕ) (t : Swift) → length (m .regs) ≡ registers → t ≡ swift.swift mem (m .regs) → t .done ≡ true
+pub common-step-is :
+    (m : Machine) (mem j : List ℕ) (t : Swift)
+    → length (m .regs) ≡ registers
+    → true ≡ quiet (m .regs)
+    → t ≡ swift.fetch mem (m .regs) (coreOf (m .regs))
+    → t .done ≡ true
     → settled m mem j 0 (swift.swiftWork (m .regs) t) ≡ settled m mem j 0 (steps.step mem (begin (m .regs)))
-common-step-is m mem j t l e d =
+unfolding swift.swift
+common-step-is m mem j t l k e d =
+    let s : t ≡ swift.swift mem (m .regs) = rw (← k) e in
     let q : steps.step mem (begin (m .regs)) ≡ swift.swiftWork (m .regs) (swift.swift mem (m .regs)) =
-    swift-step mem (m .regs) (omega arith) (rw e at d) in
-    rw (e, q)
+    swift-step mem (m .regs) (omega arith) (rw s at d) in
+    rw (s, q)

@@ -28,7 +28,8 @@ pub fn fresh(mem: &mut [u32], journal: &mut [u32], code: &[u8]) -> Reply
     }
 }
 
-// One step of the machine. Nearly every step is a common one, which needs no plan (crate swift); the engine does the others.
+// One step of the machine. Nearly every step is a common one, which needs no plan (crate swift); the engine does the others. That is called from
+// two places, so that the compiler keeps it apart from the common steps.
 pub fn step(m: Machine, mem: &mut [u32], journal: &mut [u32]) -> Reply
     ensures { λ r. ⌜ outcomeOf r (now (mem .exit)) (now (journal .exit)) ≡ rules.step m (now (mem .entry)) (now (journal .entry)) ⌝ }
 {
@@ -37,13 +38,15 @@ pub fn step(m: Machine, mem: &mut [u32], journal: &mut [u32]) -> Reply
         return checks::refuse(m, number);
     }
     let regs = m.regs;
-    let t = swift::common_step(mem, regs);
-    let common = t.done;
-    if common {
-        return brief::commit_common(m, t, mem, journal);
+    if quiet::quiet(regs) {
+        let t = swift::common_step(mem, regs);
+        let common = t.done;
+        if common {
+            return brief::commit_common(m, t, mem, journal);
+        }
+        return settle::planned(m, mem, journal);
     }
-    let p = engine::step(regs, mem);
-    settle::settle(m, p, 0, mem, journal)
+    settle::planned(m, mem, journal)
 }
 
 // The clocks go on by one.

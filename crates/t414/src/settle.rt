@@ -7,6 +7,8 @@ ghost use mathlib.Core.Path.{_≡_};
 ghost use mathlib.Core.Bool.{false};
 ghost use Prim.Native.Nat.{_≤_};
 ghost use lib.ListN.{length};
+ghost use Rattle.rules.specs.Work.{begin};
+ghost use Rattle.rules.specs.Step as steps;
 ghost use Rattle.rules.specs.Journal.{frameBad};
 ghost use Rattle.rules.specs.Calls.{outcomeOf, settled};
 ghost use Rattle.store.specs.View.{view};
@@ -20,4 +22,14 @@ pub fn settle(m: Machine, p: Plan, byte: u8, mem: &mut [u32], journal: &mut [u32
         return refuse(m, p.answer);
     }
     journal::commit(m, p, byte, mem, journal)
+}
+
+// A step by the engine.
+pub fn planned(m: Machine, mem: &mut [u32], journal: &mut [u32]) -> Reply
+    requires { ⌜ (length (now mem) ≤ 16384) × (length (now journal) ≤ 65536) × (frameBad (length (now journal)) (m .depth) (m .used) ≡ false) ⌝ }
+    ensures { λ r. ⌜ outcomeOf r (now (mem .exit)) (now (journal .exit)) ≡ settled m (now (mem .entry)) (now (journal .entry)) 0 (steps.step (now (mem .entry)) (begin (m .regs))) ⌝ }
+{
+    let regs = m.regs;
+    let p = engine::step(regs, mem);
+    settle(m, p, 0, mem, journal)
 }

@@ -1,15 +1,99 @@
 use borrow.Author.Needs.{needs}
 use native.Mathlib.Omega.{arith}
 use mathlib.Core.Path.{_≡_, refl, sym, _∙_}
-use Rattle.brief.proofs.Brief.{common-one, common-past, common-none}
+use Prim.Native.Nat.{ℕ, _+_, _*_, _≤_, _<_}
+use lib.Seq.{sets}
+use lib.ListN.{length}
+use borrow.Author.Tests.{ltb-true, ltb-false}
+use Rattle.rules.specs.Registers.{registers, withCore}
+use Rattle.rules.specs.Memory.{touched, stores}
+use Rattle.rules.specs.Journal.{recordLength, olds}
+use Rattle.rules.specs.declared.Answer.the-variants.{JournalFull}
+use Rattle.swift.specs.declared.Swift.{Swift}
+use Rattle.brief.specs.Count.{Counted, storesOf}
+use Rattle.frame.proofs.Frame.{frame-good}
+use Rattle.frame.proofs.Outcomes.{refusal-is, number-full, commit-full, commit-done}
+use Rattle.brief.proofs.Brief.{comes, record-written, listed-length}
 use Rattle.brief.proofs.commit_common.Statement.{statement}
 use Rattle.brief.proofs.commit_common.Tie as tie
 
-cast-if2 : tie.Need-cast-if2
-cast-if2 c = search needs
+good : (c : tie.Start) → (c .args .m .used ≤ length (c .args .journal .now)) × (recordLength 0 * c .args .m .depth ≤ c .args .m .used) × (length (c .args .journal .now) ≤ 65536)
+good c = let f = frame-good _ _ _ (c .pre .1) in (f .0, f .1, c .pre .0)
 
-commit-one-requires : tie.Need-commit-one-requires
-commit-one-requires c κs = search needs
+length-of : (t : Swift) (n size : ℕ) → Counted size t n → length (touched size (storesOf t)) ≡ n
+length-of t n size e = rw (← e .touches) (listed-length n (t .index) (e .few))
+
+count-requires : tie.Need-count-requires
+count-requires c κs = search needs
+
+is-full-requires : tie.Need-is-full-requires
+is-full-requires c κs =
+    let S = c .before .before .before in
+    (good S .0, omega (arith, c .count .ensures .few))
+
+refusal-requires : tie.Need-refusal-requires
+refusal-requires c κs = search needs
+
+returns : tie.Need-returns
+returns c =
+    let i = c .before in
+    let f = i .before in
+    let k = f .before in
+    let a = k .before .before .before .args in
+    let e = k .count .ensures in
+    let l = length-of (a .t) (k .count .result) (length (a .mem .now)) e in
+    let u : length (a .journal .now) < a .m .used + recordLength (length (touched (length (a .mem .now)) (storesOf (a .t)))) =
+    rw l (ltb-true _ _ (sym (f .is-full .ensures) ∙ i .if1 .taken)) in
+    refusal-is (c .refusal .result) (a .m) (a .mem .now) (a .journal .now) JournalFull (c .refusal .ensures)
+    ∙ rw number-full (commit-full (a .m) (a .mem .now) (a .journal .now) 0 (withCore (a .t .core) (a .m .regs)) (touched (length (a .mem .now)) (storesOf (a .t))) (stores (a .mem .now) (storesOf (a .t))) u)
+    ∙ comes (a .m) (a .mem .now) (a .journal .now) (a .t)
+
+mul-at : tie.Need-mul-at
+mul-at c = search needs
+
+add-at : tie.Need-add-at
+add-at c =
+    let n = c .before .before .before in
+    let S = n .before .before .before in
+    omega (arith, good S, n .count .ensures .few)
+
+make-requires : tie.Need-make-requires
+make-requires c κs =
+    let i = c .before .before .before in
+    let k = i .before .before in
+    let a = k .before .before .before .args in
+    let u : a .m .used + recordLength (k .count .result) ≤ length (a .journal .now) = ltb-false _ _ (sym (i .before .is-full .ensures) ∙ i .if1 .left) in
+    (omega (arith, u), k .count .ensures .inside)
+
+cast-put-tail : tie.Need-cast-put-tail
+cast-put-tail c = search needs
+
+put-tail-requires : tie.Need-put-tail-requires
+put-tail-requires c κs =
+    let i = c .before .before .before .before .before .before .before .before .before in
+    let k = i .before .before in
+    let a = k .before .before .before .args in
+    let u : a .m .used + recordLength (k .count .result) ≤ length (a .journal .now) = ltb-false _ _ (sym (i .before .is-full .ensures) ∙ i .if1 .left) in
+    omega (arith, u)
+
+with-core-requires : tie.Need-with-core-requires
+with-core-requires c κs = search needs
+
+add-t11 : tie.Need-add-t11
+add-t11 c =
+    let S = c .before .before .before .before .before .before .before .before .before .before .before .before .before .before .before .before .before .before .before in
+    omega (arith, good S)
+
+mul-t22 : tie.Need-mul-t22
+mul-t22 c = search needs
+
+add-t23 : tie.Need-add-t23
+add-t23 c = search needs
+
+add-t24 : tie.Need-add-t24
+add-t24 c =
+    let k = c .before .before .before .before .before .before .before .before .before .before .before .before .before .before .before .before in
+    omega (arith, good (k .before .before .before), k .count .ensures .few)
 
 same-length : tie.Need-same-length
 same-length c = search needs
@@ -17,44 +101,44 @@ same-length c = search needs
 same-length-2 : tie.Need-same-length-2
 same-length-2 c = search needs
 
-returns : tie.Need-returns
-returns c =
-    let g = c .before .before .before .before in
-    let i = g .before .before .before in
-    let a = i .before .before .before .before .before .args in
-    g .commit-one .ensures ∙ common-one (a .m) (a .mem .now) (a .journal .now) (a .t) (i .before .if1 .taken) (i .if2 .taken)
-
-commit-none-requires : tie.Need-commit-none-requires
-commit-none-requires c κs = search needs
-
-same-length-3 : tie.Need-same-length-3
-same-length-3 c = search needs
-
-same-length-4 : tie.Need-same-length-4
-same-length-4 c = search needs
-
 returns-2 : tie.Need-returns-2
 returns-2 c =
-    let g = c .before .before in
-    let i = g .before .before .before in
-    let a = i .before .before .before .before .before .args in
-    g .commit-none .ensures ∙ common-past (a .m) (a .mem .now) (a .journal .now) (a .t) (i .before .if1 .taken) (i .if2 .left)
-
-commit-none-requires-2 : tie.Need-commit-none-requires-2
-commit-none-requires-2 c κs = search needs
-
-same-length-5 : tie.Need-same-length-5
-same-length-5 c = search needs
-
-same-length-6 : tie.Need-same-length-6
-same-length-6 c = search needs
-
-returns-3 : tie.Need-returns-3
-returns-3 c =
-    let g = c .before .before in
-    let i = g .before .before .before in
-    let a = i .before .before .before .before .args in
-    g .commit-none2 .ensures ∙ common-none (a .m) (a .mem .now) (a .journal .now) (a .t) (i .if1 .left)
+    let w = c .before in
+    let p = w .before .before .before in
+    let g = p .before .before .before .before .before .before in
+    let i = g .before .before .before .before in
+    let k = i .before .before in
+    let a = k .before .before .before .args in
+    let n = k .count .result in
+    let e = k .count .ensures in
+    let ks = touched (length (a .mem .now)) (storesOf (a .t)) in
+    let l = length-of (a .t) n (length (a .mem .now)) e in
+    let j : g .make .last .1 .0 ≡ sets (a .journal .now) (a .m .used) (olds (a .mem .now) ks) = rw (e .touches) at (g .make .ensures .0) in
+    rw (w .with-core .ensures)
+    (commit-done (a .m) (a .mem .now) (a .journal .now) 0 (withCore (a .t .core) (a .m .regs)) ks (stores (a .mem .now) (storesOf (a .t))) n _ _ l
+    (ltb-false _ _ (sym (i .before .is-full .ensures) ∙ i .if1 .left))
+    (g .make .ensures .1 ∙ e .makes (a .mem .now) refl)
+    (p .put-tail .ensures ∙ rw j (record-written (a .journal .now) (a .mem .now) (a .m .regs) ks (a .m .used) n l))
+    ∙ comes (a .m) (a .mem .now) (a .journal .now) (a .t))
 
 pub commit-common-spec : {M : Type 1} → statement M
-commit-common-spec = tie.close (tie.spec cast-if2 commit-one-requires same-length same-length-2 returns commit-none-requires same-length-3 same-length-4 returns-2 commit-none-requires-2 same-length-5 same-length-6 returns-3)
+commit-common-spec =
+    tie.close
+    (tie.spec
+    count-requires
+    is-full-requires
+    refusal-requires
+    returns
+    mul-at
+    add-at
+    make-requires
+    cast-put-tail
+    put-tail-requires
+    with-core-requires
+    add-t11
+    mul-t22
+    add-t23
+    add-t24
+    same-length
+    same-length-2
+    returns-2)

@@ -5,7 +5,6 @@ use mathlib.Core.Bool.{false}
 use Rattle.rules.specs.Registers.{registers}
 use Rattle.rules.specs.Calls.{step}
 use Rattle.checks.proofs.Refusing.{number-known, stopped, passed, fits, frame-good}
-use Rattle.t414.proofs.Settling.{ready, step-known}
 use Rattle.t414.proofs.Commons.{common-step-is}
 use borrow.Author.Needs.{needs}
 use Rattle.t414.proofs.step.Statement.{statement}
@@ -31,13 +30,15 @@ returns c =
     let a = f .before .before .before .args in
     c .refuse .ensures (a .mem .now) (a .journal .now) ∙ stopped false (a .m) (a .mem .now) (a .journal .now) _ (f .first-bad .result) (f .first-bad .ensures) (i .if1 .taken)
 
+quiet-requires : tie.Need-quiet-requires
+quiet-requires c κs = search needs
+
 common-step-requires : tie.Need-common-step-requires
 common-step-requires c κs = search needs
 
 commit-common-requires : tie.Need-commit-common-requires
 commit-common-requires c κs =
-    let s = c .before .before .before in
-    let i = s .before .before .before in
+    let i = c .before .before .before .before .before .before .before .before in
     let f = i .before in
     let a = f .before .before .before .args in
     let h = sym (f .first-bad .ensures) ∙ i .if1 .left in
@@ -55,28 +56,24 @@ returns-2 c =
     let g = c .before .before .before .before in
     let k = g .before .before .before in
     let s = k .before in
-    let i = s .before .before .before in
+    let q = s .before .before in
+    let i = q .before .before .before in
     let f = i .before in
     let S = f .before .before .before in
     let a = S .args in
+    let Q = sym (q .if2 .taken) ∙ q .before .quiet .ensures in
     g .commit-common .ensures
-    ∙ common-step-is (a .m) (a .mem .now) (a .journal .now) (s .common-step .result) (long S) (s .common-step .ensures) (k .if2 .taken)
+    ∙ common-step-is (a .m) (a .mem .now) (a .journal .now) (s .common-step .result) (long S) Q (s .common-step .ensures) (k .if3 .taken)
     ∙ passed false (a .m) (a .mem .now) (a .journal .now) (sym (f .first-bad .ensures) ∙ i .if1 .left) _
 
-step-requires : tie.Need-step-requires
-step-requires c κs = search needs
-
-settle-requires : tie.Need-settle-requires
-settle-requires c κs =
-    let v = c .before .before in
-    let s = v .before .before .before in
-    let i = s .before .before .before in
+planned-requires : tie.Need-planned-requires
+planned-requires c κs =
+    let i = c .before .before .before .before .before .before .before .before in
     let f = i .before in
-    let S = f .before .before .before in
-    let a = S .args in
-    let p = v .step .result in
-    ready false (a .m) (a .mem .now) (a .journal .now) (sym (f .first-bad .ensures) ∙ i .if1 .left) p
-    (step-known (a .m .regs) (long S) p (a .mem .now) (v .step .ensures .0)) (omega (arith, v .step .ensures)) (omega (arith, v .step .ensures))
+    let a = f .before .before .before .args in
+    let h = sym (f .first-bad .ensures) ∙ i .if1 .left in
+    let l = fits false (a .m) (a .mem .now) (a .journal .now) h in
+    (l .0, l .1, frame-good false (a .m) (a .mem .now) (a .journal .now) h)
 
 same-length-3 : tie.Need-same-length-3
 same-length-3 c = search needs
@@ -87,13 +84,35 @@ same-length-4 c = search needs
 returns-3 : tie.Need-returns-3
 unfolding step
 returns-3 c =
-    let g = c .before .before .before .before in
-    let v = g .before .before .before in
-    let s = v .before .before .before in
-    let i = s .before .before .before in
+    let i = c .before .before .before .before .before .before .before .before .before .before .before .before .before in
     let f = i .before in
     let a = f .before .before .before .args in
-    (rw (v .step .ensures .0) at (g .settle .ensures)) ∙ passed false (a .m) (a .mem .now) (a .journal .now) (sym (f .first-bad .ensures) ∙ i .if1 .left) _
+    c .before .before .before .before .planned .ensures
+    ∙ passed false (a .m) (a .mem .now) (a .journal .now) (sym (f .first-bad .ensures) ∙ i .if1 .left) _
+
+planned-requires-2 : tie.Need-planned-requires-2
+planned-requires-2 c κs =
+    let i = c .before .before .before .before .before in
+    let f = i .before in
+    let a = f .before .before .before .args in
+    let h = sym (f .first-bad .ensures) ∙ i .if1 .left in
+    let l = fits false (a .m) (a .mem .now) (a .journal .now) h in
+    (l .0, l .1, frame-good false (a .m) (a .mem .now) (a .journal .now) h)
+
+same-length-5 : tie.Need-same-length-5
+same-length-5 c = search needs
+
+same-length-6 : tie.Need-same-length-6
+same-length-6 c = search needs
+
+returns-4 : tie.Need-returns-4
+unfolding step
+returns-4 c =
+    let i = c .before .before .before .before .before .before .before .before .before .before in
+    let f = i .before in
+    let a = f .before .before .before .args in
+    c .before .before .before .before .planned2 .ensures
+    ∙ passed false (a .m) (a .mem .now) (a .journal .now) (sym (f .first-bad .ensures) ∙ i .if1 .left) _
 
 pub step-spec : {M : Type 1} → statement M
 step-spec =
@@ -102,13 +121,17 @@ step-spec =
     first-bad-requires
     refuse-requires
     returns
+    quiet-requires
     common-step-requires
     commit-common-requires
     same-length
     same-length-2
     returns-2
-    step-requires
-    settle-requires
+    planned-requires
     same-length-3
     same-length-4
-    returns-3)
+    returns-3
+    planned-requires-2
+    same-length-5
+    same-length-6
+    returns-4)
