@@ -1,6 +1,4 @@
 // One step as a plan over registers and memory (01, One step): refusals 6, 7 and 9 to 11. No journal; nothing is written.
-pub mod dispatch;
-
 use names::ERROR_FLAG;
 use names::FLAGS_REG;
 use names::HALT_ON_ERROR_BIT;
@@ -59,7 +57,7 @@ fn execute(w: Plan, mem: &[u32], code: u32) -> Plan
     requires { ⌜ Room 12 w × (w .count ≡ 0) ⌝ }
     ensures { λ r. ⌜ (view r ≡ rules.execute (now (mem .entry)) code (view w)) × Ended 12 w r ⌝ }
 {
-    schedule::act_on_snp(store::put(dispatch::function(w, mem, code), OREG, 0), mem)
+    schedule::act_on_snp(store::put(operations::function(w, mem, code), OREG, 0), mem)
 }
 
 fn decode(w: Plan, mem: &[u32], code: u32) -> Plan
@@ -100,10 +98,10 @@ fn timers_first(w: Plan, mem: &[u32]) -> Plan
     requires { ⌜ Room 12 w × (w .count ≡ 0) ⌝ }
     ensures { λ r. ⌜ (view r ≡ rules.timersFirst (now (mem .entry)) (view w)) × Ended 12 w r ⌝ }
 {
-    if timers::timer_ready(w, 0) {
+    if timer_queues::timer_ready(w, 0) {
         return schedule::act_on_snp(timers::handle_timer_request(w, mem, 0), mem);
     }
-    if timers::timer_ready(w, 1) {
+    if timer_queues::timer_ready(w, 1) {
         return schedule::act_on_snp(timers::handle_timer_request(w, mem, 1), mem);
     }
     instruction_unless_idle(w, mem)

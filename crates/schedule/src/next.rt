@@ -1,8 +1,8 @@
 // PROC StartNextProcess (000 1.10).
-use crate::marks::set_idle;
-use crate::queues::activate_process;
-use crate::queues::dequeue;
-use crate::saved::restore_registers;
+use switching::marks::set_idle;
+use switching::queues::activate_process;
+use switching::queues::dequeue;
+use switching::saved::restore_registers;
 use names::FPTR_REG_HIGH;
 use names::FPTR_REG_LOW;
 use names::GOTO_SNP_BIT;

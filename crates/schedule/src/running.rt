@@ -1,8 +1,8 @@
 // PROC Run (000 1.10): a process is started, or put on a list.
-use crate::marks::mask_status;
-use crate::queues::activate_process;
-use crate::queues::enqueue;
-use crate::saved::save_registers;
+use switching::marks::mask_status;
+use switching::queues::activate_process;
+use switching::queues::enqueue;
+use switching::saved::save_registers;
 use names::BPTR_REG;
 use names::BPTR_REG_LOW;
 use names::FPTR_REG;

@@ -1,7 +1,7 @@
 // Timer guards (000 1.11): enable timer and disable timer.
-use crate::deletion::delete_first_step;
-use crate::queues::drop_b;
-use crate::waits::is_this_selected_process;
+use timer_queues::deletion::delete_first_step;
+use schedule::drop_b;
+use schedule::is_this_selected_process;
 use names::AREG;
 use names::BREG;
 use names::CREG;

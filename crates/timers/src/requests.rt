@@ -1,7 +1,7 @@
 // PROC HandleTimerRequest (000 1.8): the front process of a queue is taken off, and runs if it was waiting.
-use crate::queues::set_next;
-use crate::queues::t_enabled;
-use crate::queues::tptr_loc;
+use timer_queues::queues::set_next;
+use timer_queues::queues::t_enabled;
+use timer_queues::queues::tptr_loc;
 use names::FLAGS_REG;
 use names::NOT_PROCESS;
 use names::POINTER_S;

@@ -1,0 +1,25 @@
+use borrow.Author.Needs.{needs}
+use Rattle.rules.proofs.Tests.{yes-eq, no-eq}
+use Rattle.rules.specs.Channels.{dissGuard}
+use Rattle.alternatives.proofs.alternatives.diss_guard.Statement.{statement}
+use Rattle.alternatives.proofs.alternatives.diss_guard.Tie as tie
+
+element-copy-out-if1 : tie.Need-element-copy-out-if1
+element-copy-out-if1 c = search needs
+
+put-requires : tie.Need-put-requires
+put-requires c κs = search needs
+
+returns : tie.Need-returns
+unfolding dissGuard
+returns c = (rw (yes-eq (c .before .if1 .taken)) (c .put .ensures .0), search needs)
+
+is-this-selected-process-requires : tie.Need-is-this-selected-process-requires
+is-this-selected-process-requires c κs = search needs
+
+returns-2 : tie.Need-returns-2
+unfolding dissGuard
+returns-2 c = (rw (no-eq (c .before .if1 .left)) (c .is-this-selected-process .ensures .0), search needs)
+
+pub diss-guard-spec : {M : Type 1} → statement M
+diss-guard-spec = tie.close (tie.spec element-copy-out-if1 put-requires returns is-this-selected-process-requires returns-2)

@@ -1,0 +1,159 @@
+// Channel guards (000 1.11): enable channel and disable channel.
+use crate::alternatives::state_ready;
+use names::AREG;
+use names::BREG;
+use names::CHANNEL_REG;
+use names::CREG;
+use names::ENABLED_BIT;
+use names::HELD_BIT;
+use names::LINK_CHANS;
+use names::MACHINE_FALSE;
+use names::NOT_PROCESS;
+use names::READY_REQUEST;
+use names::WDESC_REG;
+use store::Plan;
+use store::load_word;
+use store::lower;
+use store::put;
+use store::r_index_word;
+use store::raise;
+use store::w_index_word;
+use store::word_at;
+use schedule::drop_b;
+use schedule::is_this_selected_process;
+use words::at_word;
+use words::index_of;
+ghost use mathlib.Core.Path.{_≡_};
+ghost use Prim.Native.Nat.{_<_};
+ghost use Rattle.rules.specs.Registers as registers;
+ghost use Rattle.rules.specs.Channels as rules;
+ghost use Rattle.store.specs.View.{view, Room, Grown};
+
+fn claim_channel(w: Plan, mem: &[u32]) -> Plan
+    requires { ⌜ Room 1 w ⌝ }
+    ensures { λ r. ⌜ (view r ≡ rules.claimChannel (now (mem .entry)) (view w)) × Grown 1 w r ⌝ }
+{
+    w_index_word(w, mem, w.regs[BREG], 0, w.regs[WDESC_REG])
+}
+
+fn enbc_soft(w: Plan, mem: &[u32], content: u32) -> Plan
+    requires { ⌜ Room 1 w ⌝ }
+    ensures { λ r. ⌜ (view r ≡ rules.enbcSoft (now (mem .entry)) content (view w)) × Grown 1 w r ⌝ }
+{
+    if content == NOT_PROCESS {
+        return claim_channel(w, mem);
+    }
+    if content == w.regs[WDESC_REG] {
+        return w;
+    }
+    state_ready(w, mem)
+}
+
+// A byte held is ready at once; with none held enabled is set (DECISIONS 30).
+fn enbc_hard(w: Plan, mem: &[u32], c: usize) -> Plan
+    requires { ⌜ (c < registers.linkChans) × Room 1 w ⌝ }
+    ensures { λ r. ⌜ (view r ≡ rules.enbcHard (now (mem .entry)) c (view w)) × Grown 1 w r ⌝ }
+{
+    let k = CHANNEL_REG + 3 * c;
+    if w.regs[k] & HELD_BIT == 0 {
+        return claim_channel(raise(w, k, ENABLED_BIT), mem);
+    }
+    state_ready(w, mem)
+}
+
+fn enbc_channel(w: Plan, mem: &[u32]) -> Plan
+    requires { ⌜ Room 1 w ⌝ }
+    ensures { λ r. ⌜ (view r ≡ rules.enbcChannel (now (mem .entry)) (view w)) × Grown 1 w r ⌝ }
+{
+    let number = index_of(w.regs[BREG]);
+    if number < LINK_CHANS {
+        return enbc_hard(w, mem, number as usize);
+    }
+    let a = at_word(w.regs[BREG], 0);
+    let content = word_at(w, mem, a);
+    enbc_soft(load_word(w, mem, a), mem, content)
+}
+
+fn enbc_guard(w: Plan, mem: &[u32]) -> Plan
+    requires { ⌜ Room 1 w ⌝ }
+    ensures { λ r. ⌜ (view r ≡ rules.enbcGuard (now (mem .entry)) (view w)) × Grown 1 w r ⌝ }
+{
+    if w.regs[AREG] == MACHINE_FALSE {
+        return w;
+    }
+    enbc_channel(w, mem)
+}
+
+pub fn enbc(w: Plan, mem: &[u32]) -> Plan
+    requires { ⌜ Room 1 w ⌝ }
+    ensures { λ r. ⌜ (view r ≡ rules.enbc (now (mem .entry)) (view w)) × Grown 1 w r ⌝ }
+{
+    drop_b(enbc_guard(w, mem))
+}
+
+fn disclaim(w: Plan, mem: &[u32]) -> Plan
+    requires { ⌜ Room 1 w ⌝ }
+    ensures { λ r. ⌜ (view r ≡ rules.disclaim (now (mem .entry)) (view w)) × Grown 1 w r ⌝ }
+{
+    put(
+        w_index_word(w, mem, w.regs[CREG], 0, NOT_PROCESS),
+        AREG,
+        MACHINE_FALSE,
+    )
+}
+
+fn disc_soft(w: Plan, mem: &[u32]) -> Plan
+    requires { ⌜ Room 1 w ⌝ }
+    ensures { λ r. ⌜ (view r ≡ rules.discSoft (now (mem .entry)) (view w)) × Grown 1 w r ⌝ }
+{
+    if w.regs[BREG] == NOT_PROCESS {
+        return put(w, AREG, MACHINE_FALSE);
+    }
+    if w.regs[BREG] == w.regs[WDESC_REG] {
+        return disclaim(w, mem);
+    }
+    is_this_selected_process(w, mem)
+}
+
+// Ready exactly when a byte is held (DECISIONS 30).
+fn disc_answer(w: Plan, mem: &[u32], c: usize) -> Plan
+    requires { ⌜ (c < registers.linkChans) × Room 1 w ⌝ }
+    ensures { λ r. ⌜ (view r ≡ rules.discAnswer (now (mem .entry)) c (view w)) × Grown 1 w r ⌝ }
+{
+    let k = CHANNEL_REG + 3 * c;
+    if w.regs[k] & HELD_BIT == 0 {
+        return put(w, AREG, MACHINE_FALSE);
+    }
+    is_this_selected_process(w, mem)
+}
+
+fn disc_hard(w: Plan, mem: &[u32], c: usize) -> Plan
+    requires { ⌜ (c < registers.linkChans) × Room 2 w ⌝ }
+    ensures { λ r. ⌜ (view r ≡ rules.discHard (now (mem .entry)) c (view w)) × Grown 2 w r ⌝ }
+{
+    let k = CHANNEL_REG + 3 * c;
+    let cleared = w_index_word(w, mem, w.regs[CREG], 0, NOT_PROCESS);
+    disc_answer(lower(cleared, k, ENABLED_BIT + READY_REQUEST), mem, c)
+}
+
+// On a soft channel B is left with the channel word (DECISIONS 11).
+fn disc_channel(w: Plan, mem: &[u32]) -> Plan
+    requires { ⌜ Room 2 w ⌝ }
+    ensures { λ r. ⌜ (view r ≡ rules.discChannel (now (mem .entry)) (view w)) × Grown 2 w r ⌝ }
+{
+    let number = index_of(w.regs[CREG]);
+    if number < LINK_CHANS {
+        return disc_hard(w, mem, number as usize);
+    }
+    disc_soft(r_index_word(w, mem, w.regs[CREG], 0, BREG), mem)
+}
+
+pub fn disc(w: Plan, mem: &[u32]) -> Plan
+    requires { ⌜ Room 2 w ⌝ }
+    ensures { λ r. ⌜ (view r ≡ rules.disc (now (mem .entry)) (view w)) × Grown 2 w r ⌝ }
+{
+    if w.regs[BREG] == MACHINE_FALSE {
+        return put(w, AREG, MACHINE_FALSE);
+    }
+    disc_channel(w, mem)
+}

@@ -1,0 +1,33 @@
+use borrow.Author.Needs.{needs}
+use Rattle.rules.proofs.Tests.{yes, no}
+use Rattle.rules.specs.Scheduling.{loopOn}
+use Rattle.processes.proofs.loops.loop_on.Statement.{statement}
+use Rattle.processes.proofs.loops.loop_on.Tie as tie
+
+element-copy-out-positive : tie.Need-element-copy-out-positive
+element-copy-out-positive c = search needs
+
+positive-requires : tie.Need-positive-requires
+positive-requires c κs = search needs
+
+count-up-requires : tie.Need-count-up-requires
+count-up-requires c κs = search needs
+
+loop-back-requires : tie.Need-loop-back-requires
+loop-back-requires c κs = search needs
+
+returns : tie.Need-returns
+unfolding loopOn
+returns c = (
+  rw (← c .before .before .before .positive .ensures, yes (c .before .before .if1 .taken), ← c .before .count-up .ensures .0)
+      (c .loop-back .ensures .0),
+  search needs,
+)
+
+returns-2 : tie.Need-returns-2
+unfolding loopOn
+returns-2 c = (rw (← c .before .positive .ensures, no (c .if1 .left)), search needs)
+
+pub loop-on-spec : {M : Type 1} → statement M
+loop-on-spec =
+    tie.close (tie.spec element-copy-out-positive positive-requires count-up-requires loop-back-requires returns returns-2)

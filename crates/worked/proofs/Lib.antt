@@ -1,0 +1,3 @@
+pub mod Scheduling
+pub mod Timers
+pub mod Channels

@@ -1,0 +1,1 @@
+// No code: runs of the rules worked out by computation (proofs/), where a step reads back what it stored itself.
