@@ -1,4 +1,7 @@
 // Arithmetic of two words: operations that touch no memory, on the seven registers by value. Each is the code of the definition of its name.
+use arith::signed::biased;
+use arith::signed::overflow_check;
+use arith::signed::word_of;
 use names::MINUS_ONE;
 use rules::Attempt;
 use rules::Core;
@@ -6,9 +9,6 @@ use stack::checks::error_if;
 use stack::checks::set_error_flag;
 use stack::logic::goes;
 use stack::logic::halts;
-use stack::signed::biased;
-use stack::signed::overflow_check;
-use stack::signed::word_of;
 ghost use mathlib.Core.Path.{_≡_};
 ghost use Prim.Native.Nat.{_/_, _%_, _^_};
 ghost use Rattle.rules.specs.Stack as rules;

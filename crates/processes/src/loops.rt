@@ -1,5 +1,4 @@
 // Loop end (000 1.11): sums that leave the range wrap before the test, and the time slice stands after both branches (01, One step).
-use switching::marks::add_to_c;
 use crate::slices::time_slice;
 use names::AREG;
 use names::BREG;
@@ -10,6 +9,7 @@ use store::Plan;
 use store::put;
 use store::r_index_word;
 use store::w_index_word;
+use switching::marks::add_to_c;
 use words::positive;
 ghost use mathlib.Core.Path.{_≡_};
 ghost use Prim.Native.Nat.{_-_};

@@ -1,5 +1,4 @@
 // The instructions that start, end and run processes (000 1.11, Scheduling).
-use schedule::running::run;
 use names::AREG;
 use names::BREG;
 use names::IPTR_REG;
@@ -7,6 +6,7 @@ use names::IPTR_S;
 use names::MINUS_ONE;
 use names::PRIORITY_MASK;
 use names::WDESC_REG;
+use schedule::running::run;
 use store::Plan;
 use store::goto_snp;
 use store::load_word;

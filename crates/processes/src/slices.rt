@@ -1,6 +1,4 @@
 // TimeSlice (000 1.9; 01, Links, clocks, slice), and the jump that ends with it.
-use schedule::running::run;
-use schedule::stopping::save_iptr;
 use names::CLOCKS_RUN;
 use names::FLAGS_REG;
 use names::IPTR_REG;
@@ -9,6 +7,8 @@ use names::PRIORITY_MASK;
 use names::SLICE_LENGTH;
 use names::SLICE_REG;
 use names::WDESC_REG;
+use schedule::running::run;
+use schedule::stopping::save_iptr;
 use store::Plan;
 use store::goto_snp;
 use store::put;

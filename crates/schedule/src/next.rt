@@ -1,8 +1,4 @@
 // PROC StartNextProcess (000 1.10).
-use switching::marks::set_idle;
-use switching::queues::activate_process;
-use switching::queues::dequeue;
-use switching::saved::restore_registers;
 use names::FPTR_REG_HIGH;
 use names::FPTR_REG_LOW;
 use names::GOTO_SNP_BIT;
@@ -15,6 +11,10 @@ use names::WPTR_MASK;
 use store::Plan;
 use store::lower;
 use store::put;
+use switching::marks::set_idle;
+use switching::queues::activate_process;
+use switching::queues::dequeue;
+use switching::saved::restore_registers;
 ghost use mathlib.Core.Path.{_≡_};
 ghost use Prim.Native.Nat.{_<_};
 ghost use Rattle.store.specs.View.{view, Room, Grown};

@@ -1,8 +1,4 @@
 // PROC Run (000 1.10): a process is started, or put on a list.
-use switching::marks::mask_status;
-use switching::queues::activate_process;
-use switching::queues::enqueue;
-use switching::saved::save_registers;
 use names::BPTR_REG;
 use names::BPTR_REG_LOW;
 use names::FPTR_REG;
@@ -14,6 +10,10 @@ use names::WDESC_REG;
 use names::WPTR_MASK;
 use store::Plan;
 use store::put;
+use switching::marks::mask_status;
+use switching::queues::activate_process;
+use switching::queues::enqueue;
+use switching::saved::save_registers;
 use words::level;
 ghost use mathlib.Core.Path.{_≡_};
 ghost use Rattle.store.specs.View.{view, Room, Grown};

@@ -1,8 +1,5 @@
-// Functions and operations that touch no memory, on the seven registers by value. Each is the code of the definition of its name.
-pub mod arith;
+// Functions and operations of 000 (1.11) that touch no memory, on the seven registers that they know (rules::Core), but for arithmetic.
 pub mod checks;
 pub mod clocks;
 pub mod logic;
-pub mod partword;
 pub mod registers;
-pub mod signed;

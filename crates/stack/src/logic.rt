@@ -1,11 +1,12 @@
 // Subscripts, counts and bits.
 use super::registers::result;
 use super::registers::with_a;
-use super::signed::quarter;
 use rules::Attempt;
 use rules::Core;
 ghost use mathlib.Core.Path.{_≡_};
+ghost use lib.Signed.{shrZ};
 ghost use Rattle.rules.specs.Stack as rules;
+ghost use Rattle.rules.specs.Words.{sign, restoreToRange};
 
 pub fn bsub(s: Core) -> Core
     ensures { λ r. ⌜ r ≡ rules.bsub s ⌝ }
@@ -23,6 +24,13 @@ pub fn bcnt(s: Core) -> Core
     ensures { λ r. ⌜ r ≡ rules.bcnt s ⌝ }
 {
     with_a(s.a << 2, s)
+}
+
+// A quarter, rounded down: the bits move two places, and the sign is copied.
+pub fn quarter(x: u32) -> u32
+    ensures { λ r. ⌜ r ≡ restoreToRange (shrZ (sign x) 4) ⌝ }
+{
+    if x < 0x8000_0000 { x >> 2 } else { !(!x >> 2) }
 }
 
 // The word count is the shift that copies the sign.

@@ -1,7 +1,4 @@
 // Timer guards (000 1.11): enable timer and disable timer.
-use timer_queues::deletion::delete_first_step;
-use schedule::drop_b;
-use schedule::is_this_selected_process;
 use names::AREG;
 use names::BREG;
 use names::CREG;
@@ -13,12 +10,15 @@ use names::TIME_SET;
 use names::TLINK_S;
 use names::WDESC_REG;
 use names::WPTR_MASK;
+use schedule::drop_b;
+use schedule::is_this_selected_process;
 use store::Plan;
 use store::load_word;
 use store::put;
 use store::refuse;
 use store::w_index_word;
 use store::word_at;
+use timer_queues::deletion::delete_first_step;
 use words::at_word;
 use words::later;
 ghost use mathlib.Core.Path.{_≡_};

@@ -1,7 +1,4 @@
 // PROC HandleTimerRequest (000 1.8): the front process of a queue is taken off, and runs if it was waiting.
-use timer_queues::queues::set_next;
-use timer_queues::queues::t_enabled;
-use timer_queues::queues::tptr_loc;
 use names::FLAGS_REG;
 use names::NOT_PROCESS;
 use names::POINTER_S;
@@ -18,6 +15,9 @@ use store::lower;
 use store::refuse;
 use store::w_index_word;
 use store::word_at;
+use timer_queues::queues::set_next;
+use timer_queues::queues::t_enabled;
+use timer_queues::queues::tptr_loc;
 use words::at_word;
 ghost use mathlib.Core.Path.{_≡_};
 ghost use Prim.Native.Nat.{_<_};

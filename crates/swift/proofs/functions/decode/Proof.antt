@@ -12,7 +12,7 @@ use Rattle.swift.proofs.functions.decode.Statement.{statement}
 use Rattle.swift.proofs.functions.decode.Tie as tie
 use Rattle.swift.proofs.functions.decode.Reads as reads
 use Rattle.swift.proofs.functions.decode.Lts as lts
-use Rattle.stack.proofs.arith.adc.Reads as adc-reads
+use Rattle.arith.proofs.adc.Reads as adc-reads
 use Rattle.stack.proofs.registers.ajw.Reads as ajw-reads
 use Rattle.stack.proofs.registers.cj.Reads as cj-reads
 use Rattle.stack.proofs.registers.eqc.Reads as eqc-reads

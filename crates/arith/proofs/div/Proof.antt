@@ -1,0 +1,36 @@
+use Rattle.arith.proofs.Division.{divided}
+use Rattle.rules.specs.Stack.{div}
+use borrow.Author.Needs.{needs}
+use Rattle.arith.proofs.div.Statement.{statement}
+use Rattle.arith.proofs.div.Tie as tie
+
+undivided-requires : tie.Need-undivided-requires
+undivided-requires c κs = search needs
+
+refused-requires : tie.Need-refused-requires
+refused-requires c κs = search needs
+
+returns : tie.Need-returns
+unfolding div
+returns c = rw (← c .before .before .undivided .ensures, c .before .if1 .taken) (c .refused .ensures)
+
+quotient-requires : tie.Need-quotient-requires
+quotient-requires c κs = divided (c .before .before .args .s) (c .if1 .left) (c .before .undivided .ensures)
+
+result-requires : tie.Need-result-requires
+result-requires c κs = search needs
+
+returns-2 : tie.Need-returns-2
+unfolding div
+returns-2 c = rw (← c .before .before .before .undivided .ensures, c .before .before .if1 .left, ← c .before .quotient .ensures) (c .result .ensures)
+
+pub div-spec : {M : Type 1} → statement M
+div-spec =
+    tie.close
+    (tie.spec
+    undivided-requires
+    refused-requires
+    returns
+    quotient-requires
+    result-requires
+    returns-2)

@@ -1,0 +1,38 @@
+use borrow.Author.Tests.{lt-ltb, le-ltb}
+use Rattle.words.proofs.Signed.{sign-lt}
+use borrow.Author.Needs.{needs}
+use Rattle.arith.proofs.gt.Statement.{statement}
+use Rattle.arith.proofs.gt.Tie as tie
+
+biased-requires : tie.Need-biased-requires
+biased-requires c κs = search needs
+
+biased-requires-2 : tie.Need-biased-requires-2
+biased-requires-2 c κs = search needs
+
+result-requires : tie.Need-result-requires
+result-requires c κs = search needs
+
+result-requires-2 : tie.Need-result-requires-2
+result-requires-2 c κs = search needs
+
+returns : tie.Need-returns
+returns c =
+    let s = c .before .before .before .before .args .s in
+    rw (sign-lt (s .a) (s .b) (search needs) (search needs), ← c .before .before .before .biased .ensures, ← c .before .before .biased2 .ensures, lt-ltb _ _ (c .before .if1 .taken)) (c .result .ensures)
+
+returns-2 : tie.Need-returns-2
+returns-2 c =
+    let s = c .before .before .before .before .args .s in
+    rw (sign-lt (s .a) (s .b) (search needs) (search needs), ← c .before .before .before .biased .ensures, ← c .before .before .biased2 .ensures, le-ltb _ _ (c .before .if1 .left)) (c .result2 .ensures)
+
+pub gt-spec : {M : Type 1} → statement M
+gt-spec =
+    tie.close
+    (tie.spec
+    biased-requires
+    biased-requires-2
+    result-requires
+    result-requires-2
+    returns
+    returns-2)
