@@ -12,7 +12,7 @@ use names::STATUS_REG;
 use rules::REGISTERS;
 use store::Plan;
 ghost use mathlib.Core.Path.{_≡_};
-ghost use Prim.Native.Nat.{_+_, _<_, _≤_};
+ghost use Prim.Native.Nat.{_<_, _≤_};
 ghost use Rattle.rules.specs.Work.{begin};
 ghost use Rattle.rules.specs.Step as rules;
 ghost use Rattle.store.specs.View.{view, Room, Grown, Ended};

@@ -5,3 +5,11 @@ pub mod Sound
 pub mod Calls
 pub mod T414
 pub mod Examples
+pub mod Unique
+pub mod Refused
+pub mod Exactly
+pub mod Public
+pub mod Worked
+pub mod Wrong
+pub mod Counted
+pub mod Demands

@@ -3,7 +3,7 @@ use names::OREG;
 use names::UNLISTED;
 use store::Plan;
 ghost use mathlib.Core.Path.{_≡_};
-ghost use Prim.Native.Nat.{_+_, _<_, _≤_};
+ghost use Prim.Native.Nat.{_<_, _≤_};
 ghost use Rattle.rules.specs.Operations as rules;
 ghost use Rattle.store.specs.View.{view, Room, Ended};
 

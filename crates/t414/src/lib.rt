@@ -3,15 +3,13 @@
 use rules::Answer;
 use rules::Machine;
 use rules::Reply;
-ghost use mathlib.Core.Path.{_≡_};
-ghost use Rattle.rules.specs.Calls as rules;
-ghost use Rattle.rules.specs.Calls.{outcomeOf};
+ghost use Rattle.history.specs.Contracts.{FreshContract, StepContract, TickContract, TakeContract, GiveContract, EventContract, UndoContract, ClearContract};
 
 mod settle;
 
 // A machine with the code loaded; memory is made anew, the journal is not written.
 pub fn fresh(mem: &mut [u32], journal: &mut [u32], code: &[u8]) -> Reply
-    ensures { λ r. ⌜ outcomeOf r (now (mem .exit)) (now (journal .exit)) ≡ rules.fresh (now (code .entry)) (now (mem .entry)) (now (journal .entry)) ⌝ }
+    ensures { λ r. ⌜ FreshContract (now (code .entry)) (now (mem .entry)) (now (journal .entry)) r (now (mem .exit)) (now (journal .exit)) ⌝ }
 {
     if checks::size_bad(mem.len(), journal.len()) {
         return checks::refuse(loading::no_machine(), 1);
@@ -31,7 +29,7 @@ pub fn fresh(mem: &mut [u32], journal: &mut [u32], code: &[u8]) -> Reply
 // One step of the machine. Nearly every step is a common one, which needs no plan (crate swift); the engine does the others. That is called from
 // two places, so that the compiler keeps it apart from the common steps.
 pub fn step(m: Machine, mem: &mut [u32], journal: &mut [u32]) -> Reply
-    ensures { λ r. ⌜ outcomeOf r (now (mem .exit)) (now (journal .exit)) ≡ rules.step m (now (mem .entry)) (now (journal .entry)) ⌝ }
+    ensures { λ r. ⌜ StepContract m (now (mem .entry)) (now (journal .entry)) r (now (mem .exit)) (now (journal .exit)) ⌝ }
 {
     let number = checks::first_bad(false, mem.len(), journal.len(), m.depth, m.used);
     if number != 0 {
@@ -51,7 +49,7 @@ pub fn step(m: Machine, mem: &mut [u32], journal: &mut [u32]) -> Reply
 
 // The clocks go on by one.
 pub fn tick(m: Machine, mem: &mut [u32], journal: &mut [u32]) -> Reply
-    ensures { λ r. ⌜ outcomeOf r (now (mem .exit)) (now (journal .exit)) ≡ rules.tick m (now (mem .entry)) (now (journal .entry)) ⌝ }
+    ensures { λ r. ⌜ TickContract m (now (mem .entry)) (now (journal .entry)) r (now (mem .exit)) (now (journal .exit)) ⌝ }
 {
     let number = checks::first_bad(false, mem.len(), journal.len(), m.depth, m.used);
     if number != 0 {
@@ -64,7 +62,7 @@ pub fn tick(m: Machine, mem: &mut [u32], journal: &mut [u32]) -> Reply
 
 // A byte is taken from an output link.
 pub fn take(m: Machine, mem: &mut [u32], journal: &mut [u32], channel: u32) -> Reply
-    ensures { λ r. ⌜ outcomeOf r (now (mem .exit)) (now (journal .exit)) ≡ rules.take channel m (now (mem .entry)) (now (journal .entry)) ⌝ }
+    ensures { λ r. ⌜ TakeContract channel m (now (mem .entry)) (now (journal .entry)) r (now (mem .exit)) (now (journal .exit)) ⌝ }
 {
     let number = checks::first_bad(4 <= channel, mem.len(), journal.len(), m.depth, m.used);
     if number != 0 {
@@ -80,7 +78,7 @@ pub fn take(m: Machine, mem: &mut [u32], journal: &mut [u32], channel: u32) -> R
 
 // A byte is given to an input link.
 pub fn give(m: Machine, mem: &mut [u32], journal: &mut [u32], channel: u32, byte: u8) -> Reply
-    ensures { λ r. ⌜ outcomeOf r (now (mem .exit)) (now (journal .exit)) ≡ rules.give channel byte m (now (mem .entry)) (now (journal .entry)) ⌝ }
+    ensures { λ r. ⌜ GiveContract channel byte m (now (mem .entry)) (now (journal .entry)) r (now (mem .exit)) (now (journal .exit)) ⌝ }
 {
     let number = checks::first_bad(
         checks::not_input(channel),
@@ -99,7 +97,7 @@ pub fn give(m: Machine, mem: &mut [u32], journal: &mut [u32], channel: u32, byte
 
 // The event pin is raised.
 pub fn event(m: Machine, mem: &mut [u32], journal: &mut [u32]) -> Reply
-    ensures { λ r. ⌜ outcomeOf r (now (mem .exit)) (now (journal .exit)) ≡ rules.event m (now (mem .entry)) (now (journal .entry)) ⌝ }
+    ensures { λ r. ⌜ EventContract m (now (mem .entry)) (now (journal .entry)) r (now (mem .exit)) (now (journal .exit)) ⌝ }
 {
     let number = checks::first_bad(false, mem.len(), journal.len(), m.depth, m.used);
     if number != 0 {
@@ -112,7 +110,7 @@ pub fn event(m: Machine, mem: &mut [u32], journal: &mut [u32]) -> Reply
 
 // The last accepted call is taken back.
 pub fn undo(m: Machine, mem: &mut [u32], journal: &mut [u32]) -> Reply
-    ensures { λ r. ⌜ outcomeOf r (now (mem .exit)) (now (journal .exit)) ≡ rules.undo m (now (mem .entry)) (now (journal .entry)) ⌝ }
+    ensures { λ r. ⌜ UndoContract m (now (mem .entry)) (now (journal .entry)) r (now (mem .exit)) (now (journal .exit)) ⌝ }
 {
     let number = checks::first_bad(false, mem.len(), journal.len(), m.depth, m.used);
     if number != 0 {
@@ -126,7 +124,7 @@ pub fn undo(m: Machine, mem: &mut [u32], journal: &mut [u32]) -> Reply
 
 // The journal is emptied; nothing else changes.
 pub fn clear(m: Machine, mem: &mut [u32], journal: &mut [u32]) -> Reply
-    ensures { λ r. ⌜ outcomeOf r (now (mem .exit)) (now (journal .exit)) ≡ rules.clear m (now (mem .entry)) (now (journal .entry)) ⌝ }
+    ensures { λ r. ⌜ ClearContract m (now (mem .entry)) (now (journal .entry)) r (now (mem .exit)) (now (journal .exit)) ⌝ }
 {
     if checks::size_bad(mem.len(), journal.len()) {
         return checks::refuse(m, 1);

@@ -1,0 +1,105 @@
+// Timer input and the wait of a timer alternative (000 1.11).
+use names::AREG;
+use names::BREG;
+use names::CLOCK_REG;
+use names::CREG;
+use names::ENABLING;
+use names::NONE_SELECTED;
+use names::READY;
+use names::STATE_S;
+use names::STOP;
+use names::TIME_NOT_SET;
+use names::TIME_S;
+use names::TIME_SET;
+use names::TLINK_S;
+use names::WDESC_REG;
+use names::WPTR_MASK;
+use schedule::wait;
+use store::Plan;
+use store::r_index_word;
+use store::refuse;
+use store::w_index_word;
+use timer_queues::insertion::insert_first_step;
+use timer_queues::queues::next_time;
+use words::later;
+use words::level;
+ghost use mathlib.Core.Path.{_≡_};
+ghost use Rattle.rules.specs.Timers as rules;
+ghost use Rattle.store.specs.View.{view, Room, Grown};
+
+pub fn tin(w: Plan, mem: &[u32]) -> Plan
+    requires { ⌜ Room 5 w ⌝ }
+    ensures { λ r. ⌜ (view r ≡ rules.tin (now (mem .entry)) (view w)) × Grown 5 w r ⌝ }
+{
+    let clock = CLOCK_REG + level(w.regs[WDESC_REG]);
+    if later(w.regs[clock], w.regs[AREG]) {
+        return w;
+    }
+    insert_first_step(next_time(w), mem)
+}
+
+pub fn talt(w: Plan, mem: &[u32]) -> Plan
+    requires { ⌜ Room 2 w ⌝ }
+    ensures { λ r. ⌜ (view r ≡ rules.talt (now (mem .entry)) (view w)) × Grown 2 w r ⌝ }
+{
+    let wptr = w.regs[WDESC_REG] & WPTR_MASK;
+    let unset = w_index_word(w, mem, wptr, TLINK_S, TIME_NOT_SET);
+    w_index_word(unset, mem, wptr, STATE_S, ENABLING)
+}
+
+fn time_now(w: Plan, mem: &[u32]) -> Plan
+    requires { ⌜ Room 1 w ⌝ }
+    ensures { λ r. ⌜ (view r ≡ rules.timeNow (now (mem .entry)) (view w)) × Grown 1 w r ⌝ }
+{
+    let wptr = w.regs[WDESC_REG] & WPTR_MASK;
+    let clock = CLOCK_REG + level(w.regs[WDESC_REG]);
+    w_index_word(w, mem, wptr, TIME_S, w.regs[clock])
+}
+
+// The clock makes the process ready, or it waits in the queue.
+fn taltwt_time(w: Plan, mem: &[u32]) -> Plan
+    requires { ⌜ Room 5 w ⌝ }
+    ensures { λ r. ⌜ (view r ≡ rules.taltwtTime (now (mem .entry)) (view w)) × Grown 5 w r ⌝ }
+{
+    let clock = CLOCK_REG + level(w.regs[WDESC_REG]);
+    if later(w.regs[clock], w.regs[AREG]) {
+        let wptr = w.regs[WDESC_REG] & WPTR_MASK;
+        return time_now(w_index_word(w, mem, wptr, STATE_S, READY), mem);
+    }
+    insert_first_step(next_time(w), mem)
+}
+
+fn taltwt_link(w: Plan, mem: &[u32]) -> Plan
+    requires { ⌜ Room 5 w ⌝ }
+    ensures { λ r. ⌜ (view r ≡ rules.taltwtLink (now (mem .entry)) (view w)) × Grown 5 w r ⌝ }
+{
+    if w.regs[BREG] == TIME_NOT_SET {
+        return wait(w, mem);
+    }
+    if w.regs[BREG] == TIME_SET {
+        let wptr = w.regs[WDESC_REG] & WPTR_MASK;
+        return taltwt_time(r_index_word(w, mem, wptr, TIME_S, AREG), mem);
+    }
+    refuse(w, STOP)
+}
+
+fn taltwt_state(w: Plan, mem: &[u32]) -> Plan
+    requires { ⌜ Room 5 w ⌝ }
+    ensures { λ r. ⌜ (view r ≡ rules.taltwtState (now (mem .entry)) (view w)) × Grown 5 w r ⌝ }
+{
+    if w.regs[CREG] == READY {
+        return time_now(w, mem);
+    }
+    let wptr = w.regs[WDESC_REG] & WPTR_MASK;
+    taltwt_link(r_index_word(w, mem, wptr, TLINK_S, BREG), mem)
+}
+
+// C is left with the state, then B with TLink.s, then A with the time (DECISIONS 10).
+pub fn taltwt(w: Plan, mem: &[u32]) -> Plan
+    requires { ⌜ Room 6 w ⌝ }
+    ensures { λ r. ⌜ (view r ≡ rules.taltwt (now (mem .entry)) (view w)) × Grown 6 w r ⌝ }
+{
+    let wptr = w.regs[WDESC_REG] & WPTR_MASK;
+    let none = w_index_word(w, mem, wptr, 0, NONE_SELECTED);
+    taltwt_state(r_index_word(none, mem, wptr, STATE_S, CREG), mem)
+}

@@ -7,10 +7,10 @@ use lib.Dec.{eqb}
 use Rattle.rules.specs.Tests.{ifEq}
 use Rattle.rules.specs.Memory.{stores}
 use Rattle.rules.specs.declared.Reply.{Reply}
 use Rattle.history.specs.Machine.{Act, call, undo}
 use Rattle.history.specs.T414.{Call, step, tick, give, event, Whole, stack, Plain, work}
 use Rattle.history.specs.T414 as calls
-use Rattle.theorems.specs.Contracts.{StepContract, TickContract, TakeContract, GiveContract, EventContract, UndoContract, number}
+use Rattle.history.specs.Contracts.{StepContract, TickContract, TakeContract, GiveContract, EventContract, UndoContract, number}
 
 -- the contract of a call that a sequence can have
 abbrev pub Met : Act Call → Whole → Reply → List ℕ → List ℕ → Type 0

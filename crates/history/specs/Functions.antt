@@ -6,7 +6,7 @@ use lib.ListN.{getD}
 use Rattle.rules.specs.Registers.{iptrReg}
 use Rattle.rules.specs.declared.Machine.{Machine}
 use Rattle.rules.specs.declared.Reply.{Reply}
-use Rattle.theorems.specs.Contracts.{Contract, number}
+use Rattle.history.specs.Contracts.{Contract, number}
 
 -- what a function hands back
 pub record Result : Type 0 where

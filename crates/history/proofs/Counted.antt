@@ -17,7 +17,7 @@ use Rattle.rules.specs.Calls as rules
 use Rattle.rules.specs.declared.Machine.{Machine}
 use Rattle.rules.specs.declared.Reply.{Reply}
 use Rattle.rules.proofs.Tests.{yes-eq, no-eq, cases-eq, on-pick, on-lt, on-eq}
-use Rattle.theorems.specs.Contracts.{Contract, FreshContract, StepContract, TickContract, TakeContract, GiveContract, EventContract, UndoContract, ClearContract, number}
+use Rattle.history.specs.Contracts.{Contract, FreshContract, StepContract, TickContract, TakeContract, GiveContract, EventContract, UndoContract, ClearContract, number}
 
 -- where it is accepted, depth and used become these
 pub record Counts (depth used : ℕ) (o : Outcome) : Type 0 where

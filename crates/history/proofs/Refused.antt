@@ -9,7 +9,7 @@ use Rattle.rules.specs.declared.Machine.{Machine}
 use Rattle.rules.specs.declared.Reply.{Reply}
 use Rattle.laws.specs.Calls.{Refusing}
 use Rattle.laws.proofs.Calls.{refused-step, refused-tick, refused-take, refused-give, refused-event, refused-undo, refused-clear, refused-fresh}
-use Rattle.theorems.specs.Contracts.{FreshContract, StepContract, TickContract, TakeContract, GiveContract, EventContract, UndoContract, ClearContract, number, Unchanged, RefusesCleanly}
+use Rattle.history.specs.Contracts.{FreshContract, StepContract, TickContract, TakeContract, GiveContract, EventContract, UndoContract, ClearContract, number, Unchanged, RefusesCleanly}
 
 unchanged : (m : Machine) (mem j : List ℕ) (o : Outcome) → Refusing m mem j o → (r : Reply) (mem′ j′ : List ℕ) → outcomeOf r mem′ j′ ≡ o
     → (number r ≡ 0 → ⊥) → Unchanged m mem j r mem′ j′

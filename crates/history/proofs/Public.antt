@@ -12,13 +12,13 @@ use Rattle.rules.specs.Calls.{Outcome, outcomeOf}
 use Rattle.rules.specs.declared.Reply.{Reply}
 use Rattle.rules.proofs.Tests.{yes-eq, no-eq, cases-eq}
 use Rattle.laws.proofs.Calls.{refused-undo}
 use Rattle.history.specs.Machine.{Act, call, undo, inOrder}
 use Rattle.history.specs.Machine as generic
 use Rattle.history.specs.T414.{Call, step, tick, give, event, Whole, perform, after, run, stack, standing, Shown, shown, Plain, work, effect, t414}
 use Rattle.history.specs.T414 as calls
 use Rattle.history.proofs.T414.{Emptied, from-fresh, history, history-work, history-counts, history-stands, undone}
-use Rattle.theorems.specs.Contracts.{FreshContract, number}
-use Rattle.theorems.specs.Chain.{Met, left, Chain, ended, made, stands, Moment, worked, given, plain}
+use Rattle.history.specs.Contracts.{FreshContract, number}
+use Rattle.history.specs.Chain.{Met, left, Chain, ended, made, stands, Moment, worked, given, plain}
 
 -- ---- a chain of contracts is a run of the rules
 

@@ -5,7 +5,7 @@ use mathlib.Core.Bool.{Bool, true, false}
 use mathlib.Core.List.{List, [], _∷_}
 use Prim.Native.Nat.{ℕ}
 use Rattle.rules.specs.declared.Reply.{Reply}
-use Rattle.theorems.specs.Contracts.{Contract, number}
+use Rattle.history.specs.Contracts.{Contract, number}
 
 -- `Given n es`: the condition of n holds, and that of no number before it
 pub data Given : ℕ → List (ℕ × Bool) → Type 0 where

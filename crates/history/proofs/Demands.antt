@@ -16,16 +16,16 @@ use Rattle.rules.specs.Calls.{noMachine}
 use Rattle.rules.specs.declared.Machine.{Machine}
 use Rattle.rules.specs.declared.Reply.{Reply}
 use Rattle.refusals.specs.Conditions.{freshNumbers, stepNumbers, tickNumbers, takeNumbers, giveNumbers, eventNumbers, undoNumbers, clearNumbers}
 use Rattle.history.specs.Machine.{Act, undo}
 use Rattle.history.specs.T414.{Call, Whole, shown}
-use Rattle.theorems.specs.Contracts.{Contract, FreshContract, StepContract, TickContract, TakeContract, GiveContract, EventContract, UndoContract, ClearContract, OneAnswer, Total, RefusesCleanly}
-use Rattle.theorems.specs.Given.{AnswersExactly}
-use Rattle.theorems.specs.Chain.{left, Chain, stands, Moment, given, plain}
-use Rattle.theorems.proofs.Unique.{fresh-unique, step-unique, tick-unique, take-unique, give-unique, event-unique, undo-unique, clear-unique}
-use Rattle.theorems.proofs.Unique.{fresh-total, step-total, tick-total, take-total, give-total, event-total, undo-total, clear-total}
-use Rattle.theorems.proofs.Refused.{fresh-refused, step-refused, tick-refused, take-refused, give-refused, event-refused, undo-refused, clear-refused}
-use Rattle.theorems.proofs.Exactly.{fresh-exactly, step-exactly, tick-exactly, take-exactly, give-exactly, event-exactly, undo-exactly, clear-exactly}
-use Rattle.theorems.proofs.History.{public-history, public-undone}
+use Rattle.history.specs.Contracts.{Contract, FreshContract, StepContract, TickContract, TakeContract, GiveContract, EventContract, UndoContract, ClearContract, OneAnswer, Total, RefusesCleanly}
+use Rattle.history.specs.Given.{AnswersExactly}
+use Rattle.history.specs.Chain.{left, Chain, stands, Moment, given, plain}
+use Rattle.history.proofs.Unique.{fresh-unique, step-unique, tick-unique, take-unique, give-unique, event-unique, undo-unique, clear-unique}
+use Rattle.history.proofs.Unique.{fresh-total, step-total, tick-total, take-total, give-total, event-total, undo-total, clear-total}
+use Rattle.history.proofs.Refused.{fresh-refused, step-refused, tick-refused, take-refused, give-refused, event-refused, undo-refused, clear-refused}
+use Rattle.history.proofs.Exactly.{fresh-exactly, step-exactly, tick-exactly, take-exactly, give-exactly, event-exactly, undo-exactly, clear-exactly}
+use Rattle.history.proofs.Public.{public-history, public-undone}
 
 -- of one call: some result meets its contract, and no second one; it refuses exactly by its table, and cleanly (m is the machine before it)
 pub record TotalAndExact (C : Contract) (numbers : List ℕ → List ℕ → List (ℕ × Bool)) (m : Machine) : Type 0 where

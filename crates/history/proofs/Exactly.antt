@@ -14,8 +14,8 @@ use Rattle.rules.specs.declared.Machine.{Machine}
 use Rattle.rules.specs.declared.Reply.{Reply}
 use Rattle.refusals.specs.Conditions.{firstOf, freshNumbers, stepNumbers, tickNumbers, takeNumbers, giveNumbers, eventNumbers, undoNumbers, clearNumbers}
 use Rattle.refusals.proofs.Exactly as rules-are
-use Rattle.theorems.specs.Contracts.{FreshContract, StepContract, TickContract, TakeContract, GiveContract, EventContract, UndoContract, ClearContract, number}
-use Rattle.theorems.specs.Given.{Given, none, holds, later, AnswersExactly}
+use Rattle.history.specs.Contracts.{FreshContract, StepContract, TickContract, TakeContract, GiveContract, EventContract, UndoContract, ClearContract, number}
+use Rattle.history.specs.Given.{Given, none, holds, later, AnswersExactly}
 
 -- `firstOf` gives the one number that is given
 given-first : (es : List (ℕ × Bool)) → Given (firstOf es) es

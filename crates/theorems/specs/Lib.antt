@@ -1,4 +1,0 @@
-pub mod Contracts
-pub mod Given
-pub mod Chain
-pub mod Functions
