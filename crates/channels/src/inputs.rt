@@ -1,7 +1,7 @@
 // PROC Input (000 1.10): A is the count, B the channel, C the pointer.
-use crate::hard::hard_input;
 use crate::soft::move_message;
 use crate::soft::soft_wait;
+use hard::hard_input;
 use names::BREG;
 use names::CREG;
 use names::LINK_CHANS;

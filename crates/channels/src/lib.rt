@@ -1,12 +1,10 @@
 // Channels of 000 (1.8, 1.10, 1.11) on a plan, soft and hard: one function for each definition of rules/specs/Channels.antt, its calls nested
 // as there. Channels 0 to 8 are hard (01, Links, clocks, slice); every other word of memory can be a soft one.
 pub mod requests; // HandleChannelRequest
-pub mod hard; // transfers of links and of the event channel; resetch
 pub mod soft; // the wait for a partner, and the message
 pub mod inputs; // in
 pub mod outputs; // out, outword, outbyte
 
-pub use hard::resetch;
 pub use inputs::input;
 pub use outputs::outbyte;
 pub use outputs::output;

@@ -1,7 +1,7 @@
 // PROC Output (000 1.10): A is the count, B the channel, C the pointer; and the operations that send a word or a byte of the workspace.
-use crate::hard::hard_output;
 use crate::soft::move_message;
 use crate::soft::soft_wait;
+use hard::hard_output;
 use names::AREG;
 use names::BREG;
 use names::CREG;

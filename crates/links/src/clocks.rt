@@ -10,7 +10,7 @@ use store::Plan;
 use store::put;
 use words::at_byte;
 ghost use mathlib.Core.Path.{_≡_};
-ghost use Prim.Native.Nat.{_+_, _≤_};
+ghost use Prim.Native.Nat.{_+_};
 ghost use Rattle.rules.specs.Links as rules;
 ghost use Rattle.store.specs.View.{view, Grown};
 

@@ -25,7 +25,7 @@ use words::at_byte;
 use words::with_held_byte;
 ghost use mathlib.Core.Path.{_≡_};
 ghost use mathlib.Core.Bool.{true, false};
-ghost use Prim.Native.Nat.{_+_, _<_, _≤_};
+ghost use Prim.Native.Nat.{_+_, _<_};
 ghost use Rattle.rules.specs.Registers as registers;
 ghost use Rattle.rules.specs.Links as rules;
 ghost use Rattle.store.specs.View.{view, Room, Grown};

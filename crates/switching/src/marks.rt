@@ -14,7 +14,7 @@ use store::put;
 use store::raise;
 use words::at_byte;
 ghost use mathlib.Core.Path.{_≡_};
-ghost use Rattle.store.specs.View.{view, Room, Grown};
+ghost use Rattle.store.specs.View.{view, Grown};
 ghost use Rattle.rules.specs.Scheduling as rules;
 
 // 000 finds no process to start or resume.

@@ -1,6 +1,6 @@
 use borrow.Author.Needs.{needs}
 use Rattle.rules.specs.Operations as tables
-use Rattle.operations.proofs.Tables.{unlisted-function}
+use Rattle.tables.proofs.Tables.{unlisted-function}
 use Rattle.operations.proofs.function.Statement.{statement}
 use Rattle.operations.proofs.function.Tie as tie
 

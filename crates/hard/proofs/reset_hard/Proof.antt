@@ -1,0 +1,25 @@
+use borrow.Author.Needs.{needs}
+use Rattle.rules.proofs.Tests.{yes-lt, no-lt}
+use Rattle.rules.specs.Channels.{resetHard}
+use Rattle.hard.proofs.reset_hard.Statement.{statement}
+use Rattle.hard.proofs.reset_hard.Tie as tie
+
+mul-k : tie.Need-mul-k
+mul-k c = search needs
+
+add-k : tie.Need-add-k
+add-k c = search needs
+
+lower-requires : tie.Need-lower-requires
+lower-requires c κs = search needs
+
+returns : tie.Need-returns
+unfolding resetHard
+returns c = (rw (yes-lt (c .before .if1 .taken)) (c .lower .ensures .0), search needs)
+
+returns-2 : tie.Need-returns-2
+unfolding resetHard
+returns-2 c = (rw (no-lt (c .if1 .left)), search needs)
+
+pub reset-hard-spec : {M : Type 1} → statement M
+reset-hard-spec = tie.close (tie.spec mul-k add-k lower-requires returns returns-2)

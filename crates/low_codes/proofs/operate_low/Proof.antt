@@ -1,0 +1,361 @@
+use borrow.Author.Needs.{needs}
+use native.Mathlib.Omega.{arith}
+use Rattle.rules.specs.Operations as tables
+use Rattle.tables.proofs.Tables.{low, unlisted-low}
+use Rattle.low_codes.proofs.operate_low.Statement.{statement}
+use Rattle.low_codes.proofs.operate_low.Tie as tie
+
+core-of-requires : tie.Need-core-of-requires
+core-of-requires c κs = search needs
+
+rev-requires : tie.Need-rev-requires
+rev-requires c κs = search needs
+
+put-core-requires : tie.Need-put-core-requires
+put-core-requires c κs = search needs
+
+lb-requires : tie.Need-lb-requires
+lb-requires c κs = search needs
+
+core-of-requires-2 : tie.Need-core-of-requires-2
+core-of-requires-2 c κs = search needs
+
+bsub-requires : tie.Need-bsub-requires
+bsub-requires c κs = search needs
+
+put-core-requires-2 : tie.Need-put-core-requires-2
+put-core-requires-2 c κs = search needs
+
+endp-requires : tie.Need-endp-requires
+endp-requires c κs = search needs
+
+core-of-requires-3 : tie.Need-core-of-requires-3
+core-of-requires-3 c κs = search needs
+
+diff-requires : tie.Need-diff-requires
+diff-requires c κs = search needs
+
+put-core-requires-3 : tie.Need-put-core-requires-3
+put-core-requires-3 c κs = search needs
+
+core-of-requires-4 : tie.Need-core-of-requires-4
+core-of-requires-4 c κs = search needs
+
+add-requires : tie.Need-add-requires
+add-requires c κs = search needs
+
+put-core-requires-4 : tie.Need-put-core-requires-4
+put-core-requires-4 c κs = search needs
+
+core-of-requires-5 : tie.Need-core-of-requires-5
+core-of-requires-5 c κs = search needs
+
+gcall-requires : tie.Need-gcall-requires
+gcall-requires c κs = search needs
+
+put-core-requires-5 : tie.Need-put-core-requires-5
+put-core-requires-5 c κs = search needs
+
+input-requires : tie.Need-input-requires
+input-requires c κs = search needs
+
+core-of-requires-6 : tie.Need-core-of-requires-6
+core-of-requires-6 c κs = search needs
+
+prod-requires : tie.Need-prod-requires
+prod-requires c κs = search needs
+
+put-core-requires-6 : tie.Need-put-core-requires-6
+put-core-requires-6 c κs = search needs
+
+core-of-requires-7 : tie.Need-core-of-requires-7
+core-of-requires-7 c κs = search needs
+
+gt-requires : tie.Need-gt-requires
+gt-requires c κs = search needs
+
+put-core-requires-7 : tie.Need-put-core-requires-7
+put-core-requires-7 c κs = search needs
+
+core-of-requires-8 : tie.Need-core-of-requires-8
+core-of-requires-8 c κs = search needs
+
+wsub-requires : tie.Need-wsub-requires
+wsub-requires c κs = search needs
+
+put-core-requires-8 : tie.Need-put-core-requires-8
+put-core-requires-8 c κs = search needs
+
+output-requires : tie.Need-output-requires
+output-requires c κs = search needs
+
+core-of-requires-9 : tie.Need-core-of-requires-9
+core-of-requires-9 c κs = search needs
+
+sub-requires : tie.Need-sub-requires
+sub-requires c κs = search needs
+
+put-core-requires-9 : tie.Need-put-core-requires-9
+put-core-requires-9 c κs = search needs
+
+startp-requires : tie.Need-startp-requires
+startp-requires c κs = search needs
+
+outbyte-requires : tie.Need-outbyte-requires
+outbyte-requires c κs = search needs
+
+outword-requires : tie.Need-outword-requires
+outword-requires c κs = search needs
+
+core-of-requires-10 : tie.Need-core-of-requires-10
+core-of-requires-10 c κs = search needs
+
+seterr-requires : tie.Need-seterr-requires
+seterr-requires c κs = search needs
+
+put-core-requires-10 : tie.Need-put-core-requires-10
+put-core-requires-10 c κs = search needs
+
+resetch-requires : tie.Need-resetch-requires
+resetch-requires c κs = search needs
+
+core-of-requires-11 : tie.Need-core-of-requires-11
+core-of-requires-11 c κs = search needs
+
+csub0-requires : tie.Need-csub0-requires
+csub0-requires c κs = search needs
+
+put-core-requires-11 : tie.Need-put-core-requires-11
+put-core-requires-11 c κs = search needs
+
+stopp-requires : tie.Need-stopp-requires
+stopp-requires c κs = search needs
+
+core-of-requires-12 : tie.Need-core-of-requires-12
+core-of-requires-12 c κs = search needs
+
+ladd-requires : tie.Need-ladd-requires
+ladd-requires c κs = search needs
+
+put-core-requires-12 : tie.Need-put-core-requires-12
+put-core-requires-12 c κs = search needs
+
+core-of-requires-13 : tie.Need-core-of-requires-13
+core-of-requires-13 c κs = search needs
+
+system-of-requires : tie.Need-system-of-requires
+system-of-requires c κs = search needs
+
+stlb-requires : tie.Need-stlb-requires
+stlb-requires c κs = search needs
+
+put-both-requires : tie.Need-put-both-requires
+put-both-requires c κs = search needs
+
+core-of-requires-14 : tie.Need-core-of-requires-14
+core-of-requires-14 c κs = search needs
+
+system-of-requires-2 : tie.Need-system-of-requires-2
+system-of-requires-2 c κs = search needs
+
+sthf-requires : tie.Need-sthf-requires
+sthf-requires c κs = search needs
+
+put-both-requires-2 : tie.Need-put-both-requires-2
+put-both-requires-2 c κs = search needs
+
+core-of-requires-15 : tie.Need-core-of-requires-15
+core-of-requires-15 c κs = search needs
+
+norm-requires : tie.Need-norm-requires
+norm-requires c κs = search needs
+
+put-core-requires-13 : tie.Need-put-core-requires-13
+put-core-requires-13 c κs = search needs
+
+core-of-requires-16 : tie.Need-core-of-requires-16
+core-of-requires-16 c κs = search needs
+
+ldiv-requires : tie.Need-ldiv-requires
+ldiv-requires c κs = search needs
+
+put-core-requires-14 : tie.Need-put-core-requires-14
+put-core-requires-14 c κs = search needs
+
+core-of-requires-17 : tie.Need-core-of-requires-17
+core-of-requires-17 c κs = search needs
+
+ldpi-requires : tie.Need-ldpi-requires
+ldpi-requires c κs = search needs
+
+put-core-requires-15 : tie.Need-put-core-requires-15
+put-core-requires-15 c κs = search needs
+
+core-of-requires-18 : tie.Need-core-of-requires-18
+core-of-requires-18 c κs = search needs
+
+system-of-requires-3 : tie.Need-system-of-requires-3
+system-of-requires-3 c κs = search needs
+
+stlf-requires : tie.Need-stlf-requires
+stlf-requires c κs = search needs
+
+put-both-requires-3 : tie.Need-put-both-requires-3
+put-both-requires-3 c κs = search needs
+
+core-of-requires-19 : tie.Need-core-of-requires-19
+core-of-requires-19 c κs = search needs
+
+xdbl-requires : tie.Need-xdbl-requires
+xdbl-requires c κs = search needs
+
+put-core-requires-16 : tie.Need-put-core-requires-16
+put-core-requires-16 c κs = search needs
+
+core-of-requires-20 : tie.Need-core-of-requires-20
+core-of-requires-20 c κs = search needs
+
+ldpri-requires : tie.Need-ldpri-requires
+ldpri-requires c κs = search needs
+
+put-core-requires-17 : tie.Need-put-core-requires-17
+put-core-requires-17 c κs = search needs
+
+core-of-requires-21 : tie.Need-core-of-requires-21
+core-of-requires-21 c κs = search needs
+
+rem-requires : tie.Need-rem-requires
+rem-requires c κs = search needs
+
+put-core-requires-18 : tie.Need-put-core-requires-18
+put-core-requires-18 c κs = search needs
+
+refuse-requires : tie.Need-refuse-requires
+refuse-requires c κs = search needs
+
+returns : tie.Need-returns
+unfolding tables.operate tables.operations
+returns c = (rw (c .before .before .before .match .keys1) (rw (c .put-core .ensures .0, c .before .rev .ensures, c .before .before .core-of .ensures)), search needs)
+
+returns-2 : tie.Need-returns-2
+unfolding tables.operate tables.operations
+returns-2 c = (rw (c .before .match .keys2) (c .lb .ensures .0), search needs)
+
+returns-3 : tie.Need-returns-3
+unfolding tables.operate tables.operations
+returns-3 c = (rw (c .before .before .before .match .keys3) (rw (c .put-core2 .ensures .0, c .before .bsub .ensures, c .before .before .core-of2 .ensures)), search needs)
+
+returns-4 : tie.Need-returns-4
+unfolding tables.operate tables.operations
+returns-4 c = (rw (c .before .match .keys4) (c .endp .ensures .0), search needs)
+
+returns-5 : tie.Need-returns-5
+unfolding tables.operate tables.operations
+returns-5 c = (rw (c .before .before .before .match .keys5) (rw (c .put-core3 .ensures .0, c .before .diff .ensures, c .before .before .core-of3 .ensures)), search needs)
+
+returns-6 : tie.Need-returns-6
+unfolding tables.operate tables.operations
+returns-6 c = (rw (c .before .before .before .match .keys6) (rw (c .put-core4 .ensures .0, c .before .add .ensures, c .before .before .core-of4 .ensures)), search needs)
+
+returns-7 : tie.Need-returns-7
+unfolding tables.operate tables.operations
+returns-7 c = (rw (c .before .before .before .match .keys7) (rw (c .put-core5 .ensures .0, c .before .gcall .ensures, c .before .before .core-of5 .ensures)), search needs)
+
+returns-8 : tie.Need-returns-8
+unfolding tables.operate tables.operations
+returns-8 c = (rw (c .before .match .keys8) (c .input .ensures .0), search needs)
+
+returns-9 : tie.Need-returns-9
+unfolding tables.operate tables.operations
+returns-9 c = (rw (c .before .before .before .match .keys9) (rw (c .put-core6 .ensures .0, c .before .prod .ensures, c .before .before .core-of6 .ensures)), search needs)
+
+returns-10 : tie.Need-returns-10
+unfolding tables.operate tables.operations
+returns-10 c = (rw (c .before .before .before .match .keys10) (rw (c .put-core7 .ensures .0, c .before .gt .ensures, c .before .before .core-of7 .ensures)), search needs)
+
+returns-11 : tie.Need-returns-11
+unfolding tables.operate tables.operations
+returns-11 c = (rw (c .before .before .before .match .keys11) (rw (c .put-core8 .ensures .0, c .before .wsub .ensures, c .before .before .core-of8 .ensures)), search needs)
+
+returns-12 : tie.Need-returns-12
+unfolding tables.operate tables.operations
+returns-12 c = (rw (c .before .match .keys12) (c .output .ensures .0), search needs)
+
+returns-13 : tie.Need-returns-13
+unfolding tables.operate tables.operations
+returns-13 c = (rw (c .before .before .before .match .keys13) (rw (c .put-core9 .ensures .0, c .before .sub .ensures, c .before .before .core-of9 .ensures)), search needs)
+
+returns-14 : tie.Need-returns-14
+unfolding tables.operate tables.operations
+returns-14 c = (rw (c .before .match .keys14) (c .startp .ensures .0), search needs)
+
+returns-15 : tie.Need-returns-15
+unfolding tables.operate tables.operations
+returns-15 c = (rw (c .before .match .keys15) (c .outbyte .ensures .0), search needs)
+
+returns-16 : tie.Need-returns-16
+unfolding tables.operate tables.operations
+returns-16 c = (rw (c .before .match .keys16) (c .outword .ensures .0), search needs)
+
+returns-17 : tie.Need-returns-17
+unfolding tables.operate tables.operations
+returns-17 c = (rw (c .before .before .before .match .keys17) (rw (c .put-core10 .ensures .0, c .before .seterr .ensures, c .before .before .core-of10 .ensures)), search needs)
+
+returns-18 : tie.Need-returns-18
+unfolding tables.operate tables.operations
+returns-18 c = (rw (c .before .match .keys18) (c .resetch .ensures .0), search needs)
+
+returns-19 : tie.Need-returns-19
+unfolding tables.operate tables.operations
+returns-19 c = (rw (c .before .before .before .match .keys19) (rw (c .put-core11 .ensures .0, c .before .csub0 .ensures, c .before .before .core-of11 .ensures)), search needs)
+
+returns-20 : tie.Need-returns-20
+unfolding tables.operate tables.operations
+returns-20 c = (rw (c .before .match .keys20) (c .stopp .ensures .0), search needs)
+
+returns-21 : tie.Need-returns-21
+unfolding tables.operate tables.operations
+returns-21 c = (rw (c .before .before .before .match .keys21) (rw (c .put-core12 .ensures .0, c .before .ladd .ensures, c .before .before .core-of12 .ensures)), search needs)
+
+returns-22 : tie.Need-returns-22
+unfolding tables.operate tables.operations
+returns-22 c = (rw (c .before .before .before .before .match .keys22) (rw (c .put-both .ensures .0, c .before .stlb .ensures, c .before .before .system-of .ensures, c .before .before .before .core-of13 .ensures)), search needs)
+
+returns-23 : tie.Need-returns-23
+unfolding tables.operate tables.operations
+returns-23 c = (rw (c .before .before .before .before .match .keys23) (rw (c .put-both2 .ensures .0, c .before .sthf .ensures, c .before .before .system-of2 .ensures, c .before .before .before .core-of14 .ensures)), search needs)
+
+returns-24 : tie.Need-returns-24
+unfolding tables.operate tables.operations
+returns-24 c = (rw (c .before .before .before .match .keys24) (rw (c .put-core13 .ensures .0, c .before .norm .ensures, c .before .before .core-of15 .ensures)), search needs)
+
+returns-25 : tie.Need-returns-25
+unfolding tables.operate tables.operations
+returns-25 c = (rw (c .before .before .before .match .keys25) (rw (c .put-core14 .ensures .0, c .before .ldiv .ensures, c .before .before .core-of16 .ensures)), search needs)
+
+returns-26 : tie.Need-returns-26
+unfolding tables.operate tables.operations
+returns-26 c = (rw (c .before .before .before .match .keys26) (rw (c .put-core15 .ensures .0, c .before .ldpi .ensures, c .before .before .core-of17 .ensures)), search needs)
+
+returns-27 : tie.Need-returns-27
+unfolding tables.operate tables.operations
+returns-27 c = (rw (c .before .before .before .before .match .keys27) (rw (c .put-both3 .ensures .0, c .before .stlf .ensures, c .before .before .system-of3 .ensures, c .before .before .before .core-of18 .ensures)), search needs)
+
+returns-28 : tie.Need-returns-28
+unfolding tables.operate tables.operations
+returns-28 c = (rw (c .before .before .before .match .keys28) (rw (c .put-core16 .ensures .0, c .before .xdbl .ensures, c .before .before .core-of19 .ensures)), search needs)
+
+returns-29 : tie.Need-returns-29
+unfolding tables.operate tables.operations
+returns-29 c = (rw (c .before .before .before .match .keys29) (rw (c .put-core17 .ensures .0, c .before .ldpri .ensures, c .before .before .core-of20 .ensures)), search needs)
+
+returns-30 : tie.Need-returns-30
+unfolding tables.operate tables.operations
+returns-30 c = (rw (c .before .before .before .match .keys30) (rw (c .put-core18 .ensures .0, c .before .rem .ensures, c .before .before .core-of21 .ensures)), search needs)
+
+returns-31 : tie.Need-returns-31
+unfolding low tables.operations
+returns-31 c = (rw (unlisted-low (c .before .before .before .args .code) (c .before .before .before .args .mem .now) _ (omega arith) (c .before .match .rest)) (c .refuse .ensures .0), search needs)
+
+pub operate-low-spec : {M : Type 1} → statement M
+operate-low-spec = tie.close (tie.spec core-of-requires rev-requires put-core-requires lb-requires core-of-requires-2 bsub-requires put-core-requires-2 endp-requires core-of-requires-3 diff-requires put-core-requires-3 core-of-requires-4 add-requires put-core-requires-4 core-of-requires-5 gcall-requires put-core-requires-5 input-requires core-of-requires-6 prod-requires put-core-requires-6 core-of-requires-7 gt-requires put-core-requires-7 core-of-requires-8 wsub-requires put-core-requires-8 output-requires core-of-requires-9 sub-requires put-core-requires-9 startp-requires outbyte-requires outword-requires core-of-requires-10 seterr-requires put-core-requires-10 resetch-requires core-of-requires-11 csub0-requires put-core-requires-11 stopp-requires core-of-requires-12 ladd-requires put-core-requires-12 core-of-requires-13 system-of-requires stlb-requires put-both-requires core-of-requires-14 system-of-requires-2 sthf-requires put-both-requires-2 core-of-requires-15 norm-requires put-core-requires-13 core-of-requires-16 ldiv-requires put-core-requires-14 core-of-requires-17 ldpi-requires put-core-requires-15 core-of-requires-18 system-of-requires-3 stlf-requires put-both-requires-3 core-of-requires-19 xdbl-requires put-core-requires-16 core-of-requires-20 ldpri-requires put-core-requires-17 core-of-requires-21 rem-requires put-core-requires-18 refuse-requires returns returns-2 returns-3 returns-4 returns-5 returns-6 returns-7 returns-8 returns-9 returns-10 returns-11 returns-12 returns-13 returns-14 returns-15 returns-16 returns-17 returns-18 returns-19 returns-20 returns-21 returns-22 returns-23 returns-24 returns-25 returns-26 returns-27 returns-28 returns-29 returns-30 returns-31)
