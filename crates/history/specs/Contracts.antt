@@ -1,5 +1,5 @@
 -- The contracts of the eight public functions (crates/t414), each as one definition: from a machine, memory and journal to a reply, and memory
--- and journal as they then are. It is the very equation that stands in the function's `ensures`; no function has a `requires`.
+-- and journal as they then are. Each is the whole `ensures` of its function; no function has a `requires`.
 use mathlib.Core.Path.{_≡_}
 use mathlib.Core.List.{List}
 use Prim.Native.Nat.{ℕ}
