@@ -8,16 +8,16 @@ use names::READY;
 use names::STATE_S;
 use names::WDESC_REG;
 use names::WPTR_MASK;
+use plan::Plan;
+use plan::put;
 use schedule::drop_b;
 use schedule::is_this_selected_process;
 use schedule::wait;
-use store::Plan;
-use store::put;
 use store::r_index_word;
 use store::w_index_word;
 ghost use mathlib.Core.Path.{_≡_};
 ghost use Rattle.rules.specs.Channels as rules;
-ghost use Rattle.store.specs.View.{view, Room, Grown};
+ghost use Rattle.plan.specs.View.{view, Room, Grown};
 
 pub fn alt(w: Plan, mem: &[u32]) -> Plan
     requires { ⌜ Room 1 w ⌝ }

@@ -1,5 +1,6 @@
 // Channel guards (000 1.11): enable channel and disable channel.
 use crate::alternatives::state_ready;
+use loads::word_at;
 use names::AREG;
 use names::BREG;
 use names::CHANNEL_REG;
@@ -11,23 +12,22 @@ use names::MACHINE_FALSE;
 use names::NOT_PROCESS;
 use names::READY_REQUEST;
 use names::WDESC_REG;
+use plan::Plan;
+use plan::lower;
+use plan::put;
+use plan::raise;
 use schedule::drop_b;
 use schedule::is_this_selected_process;
-use store::Plan;
 use store::load_word;
-use store::lower;
-use store::put;
 use store::r_index_word;
-use store::raise;
 use store::w_index_word;
-use store::word_at;
 use words::at_word;
 use words::index_of;
 ghost use mathlib.Core.Path.{_≡_};
 ghost use Prim.Native.Nat.{_<_};
 ghost use Rattle.rules.specs.Registers as registers;
 ghost use Rattle.rules.specs.Channels as rules;
-ghost use Rattle.store.specs.View.{view, Room, Grown};
+ghost use Rattle.plan.specs.View.{view, Room, Grown};
 
 fn claim_channel(w: Plan, mem: &[u32]) -> Plan
     requires { ⌜ Room 1 w ⌝ }

@@ -2,22 +2,22 @@
 use crate::soft::move_message;
 use crate::soft::soft_wait;
 use hard::hard_input;
+use loads::word_at;
 use names::BREG;
 use names::CREG;
 use names::LINK_CHANS;
 use names::NOT_PROCESS;
 use names::POINTER_S;
 use names::WPTR_MASK;
-use store::Plan;
+use plan::Plan;
+use plan::put;
 use store::load_word;
-use store::put;
 use store::w_index_word;
-use store::word_at;
 use words::at_word;
 use words::index_of;
 ghost use mathlib.Core.Path.{_≡_};
 ghost use Rattle.rules.specs.Channels as rules;
-ghost use Rattle.store.specs.View.{view, Room, Grown, Ended};
+ghost use Rattle.plan.specs.View.{view, Room, Grown, Ended};
 
 // The registers for a message from the partner's pointer.
 fn input_regs(w: Plan, source: u32) -> Plan

@@ -2,6 +2,7 @@
 use crate::soft::move_message;
 use crate::soft::soft_wait;
 use hard::hard_output;
+use loads::word_at;
 use names::AREG;
 use names::BREG;
 use names::CREG;
@@ -13,17 +14,16 @@ use names::READY;
 use names::WAITING;
 use names::WDESC_REG;
 use names::WPTR_MASK;
+use plan::Plan;
+use plan::put;
 use schedule::run;
-use store::Plan;
 use store::load_word;
-use store::put;
 use store::w_index_word;
-use store::word_at;
 use words::at_word;
 use words::index_of;
 ghost use mathlib.Core.Path.{_≡_};
 ghost use Rattle.rules.specs.Channels as rules;
-ghost use Rattle.store.specs.View.{view, Room, Grown, Ended};
+ghost use Rattle.plan.specs.View.{view, Room, Grown, Ended};
 
 fn output_message(w: Plan, mem: &[u32], descriptor: u32, target: u32) -> Plan
     requires { ⌜ Room 8 w × (w .count ≡ 0) ⌝ }

@@ -1,4 +1,5 @@
 // Requests of channels (01, One step), and PROC HandleChannelRequest (000 1.8).
+use loads::word_at;
 use names::CHANNEL_REG;
 use names::ENABLING;
 use names::LINK_CHANS;
@@ -11,19 +12,18 @@ use names::RUN_REQUEST;
 use names::STOP;
 use names::WAITING;
 use names::WPTR_MASK;
+use plan::Plan;
+use plan::lower;
+use plan::refuse;
 use schedule::run;
-use store::Plan;
 use store::load_word;
-use store::lower;
-use store::refuse;
 use store::w_index_word;
-use store::word_at;
 use words::at_word;
 ghost use mathlib.Core.Path.{_≡_};
 ghost use Prim.Native.Nat.{_+_, _<_, _≤_};
 ghost use Rattle.rules.specs.Registers as registers;
 ghost use Rattle.rules.specs.Channels as rules;
-ghost use Rattle.store.specs.View.{view, Room, Grown};
+ghost use Rattle.plan.specs.View.{view, Room, Grown};
 
 // Of the n channels from c on, the lowest with a run or a ready request; 9 where there is none.
 fn request_from(w: Plan, c: usize, n: usize) -> usize

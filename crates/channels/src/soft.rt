@@ -6,15 +6,15 @@ use names::CREG;
 use names::POINTER_S;
 use names::WDESC_REG;
 use names::WPTR_MASK;
+use plan::Plan;
+use plan::goto_snp;
 use schedule::run;
 use schedule::save_iptr;
-use store::Plan;
-use store::goto_snp;
 use store::transfer;
 use store::w_index_word;
 ghost use mathlib.Core.Path.{_≡_};
 ghost use Rattle.rules.specs.Channels as rules;
-ghost use Rattle.store.specs.View.{view, Room, Grown, Ended};
+ghost use Rattle.plan.specs.View.{view, Room, Grown, Ended};
 
 // PROC SaveRegsPendingSoftIO.
 fn save_regs_pending_soft_io(w: Plan, mem: &[u32]) -> Plan

@@ -3,10 +3,10 @@ use crate::stack::move_done;
 use names::AREG;
 use names::BREG;
 use names::CREG;
-use store::Plan;
+use plan::Plan;
 use store::transfer;
 ghost use mathlib.Core.Path.{_≡_};
-ghost use Rattle.store.specs.View.{view, Room, Ended};
+ghost use Rattle.plan.specs.View.{view, Room, Ended};
 ghost use Rattle.rules.specs.Data as rules;
 
 // Move message: all bytes in one step.

@@ -2,12 +2,12 @@
 use names::AREG;
 use names::BREG;
 use names::CREG;
-use store::Plan;
-use store::put;
+use plan::Plan;
+use plan::put;
 use store::r_index_byte;
 use store::store_byte;
 ghost use mathlib.Core.Path.{_≡_};
-ghost use Rattle.store.specs.View.{view, Room, Grown};
+ghost use Rattle.plan.specs.View.{view, Room, Grown};
 ghost use Rattle.rules.specs.Data as rules;
 
 // Load byte.

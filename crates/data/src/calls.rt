@@ -1,6 +1,7 @@
 // Procedures are called and left, and an alternative is entered.
 use crate::stack::adjusted;
 use crate::stack::jump_by;
+use loads::word_at;
 use names::AREG;
 use names::BREG;
 use names::CREG;
@@ -8,15 +9,14 @@ use names::IPTR_REG;
 use names::OREG;
 use names::WDESC_REG;
 use names::WPTR_MASK;
-use store::Plan;
+use plan::Plan;
+use plan::put;
 use store::load_word;
-use store::put;
 use store::r_index_word;
 use store::w_index_word;
-use store::word_at;
 use words::at_word;
 ghost use mathlib.Core.Path.{_≡_};
-ghost use Rattle.store.specs.View.{view, Room, Grown};
+ghost use Rattle.plan.specs.View.{view, Room, Grown};
 ghost use Rattle.rules.specs.Data as rules;
 
 // The places of a frame, in words from the caller's Wptr.

@@ -3,11 +3,11 @@ use crate::stack::popped;
 use names::AREG;
 use names::BPTR_REG;
 use names::FPTR_REG;
-use store::Plan;
+use plan::Plan;
 use store::w_index_word;
 ghost use Prim.Native.Nat.{_<_};
 ghost use mathlib.Core.Path.{_≡_};
-ghost use Rattle.store.specs.View.{view, Room, Grown};
+ghost use Rattle.plan.specs.View.{view, Room, Grown};
 ghost use Rattle.rules.specs.Data as rules;
 
 // Those of a level.

@@ -6,12 +6,12 @@ use names::IPTR_REG;
 use names::PRIORITY_MASK;
 use names::WDESC_REG;
 use names::WPTR_MASK;
-use store::Plan;
-use store::put;
+use plan::Plan;
+use plan::put;
 use words::at_byte;
 use words::at_word;
 ghost use mathlib.Core.Path.{_≡_};
-ghost use Rattle.store.specs.View.{view, Grown};
+ghost use Rattle.plan.specs.View.{view, Grown};
 ghost use Rattle.rules.specs.Data as rules;
 
 // Room is made for a new Areg.

@@ -9,13 +9,13 @@ use names::IDLE_FLAG;
 use names::IPTR_REG;
 use names::OREG;
 use names::STATUS_REG;
+use plan::Plan;
 use rules::REGISTERS;
-use store::Plan;
 ghost use mathlib.Core.Path.{_≡_};
 ghost use Prim.Native.Nat.{_<_, _≤_};
 ghost use Rattle.rules.specs.Work.{begin};
 ghost use Rattle.rules.specs.Step as rules;
-ghost use Rattle.store.specs.View.{view, Room, Grown, Ended};
+ghost use Rattle.plan.specs.View.{view, Room, Grown, Ended};
 
 // The machine halts where HaltOnError is set.
 fn halt_if_asked(w: Plan) -> Plan
@@ -24,7 +24,7 @@ fn halt_if_asked(w: Plan) -> Plan
     if w.regs[STATUS_REG] & HALT_ON_ERROR_BIT == 0 {
         return w;
     }
-    store::raise(w, FLAGS_REG, HALTED_FLAG)
+    plan::raise(w, FLAGS_REG, HALTED_FLAG)
 }
 
 // Only an error flag that the step has set halts; before is Status before the step.
@@ -45,8 +45,8 @@ fn fetched(w: Plan, byte: u32) -> Plan
     ensures { λ r. ⌜ (view r ≡ rules.fetched byte (view w)) × Grown 0 w r ⌝ }
 {
     let o = words::with_nibble(byte, w.regs[OREG]);
-    store::put(
-        store::put(w, IPTR_REG, words::at_byte(w.regs[IPTR_REG], 1)),
+    plan::put(
+        plan::put(w, IPTR_REG, words::at_byte(w.regs[IPTR_REG], 1)),
         OREG,
         o,
     )
@@ -57,7 +57,7 @@ fn execute(w: Plan, mem: &[u32], code: u32) -> Plan
     requires { ⌜ Room 12 w × (w .count ≡ 0) ⌝ }
     ensures { λ r. ⌜ (view r ≡ rules.execute (now (mem .entry)) code (view w)) × Ended 12 w r ⌝ }
 {
-    schedule::act_on_snp(store::put(operations::function(w, mem, code), OREG, 0), mem)
+    schedule::act_on_snp(plan::put(operations::function(w, mem, code), OREG, 0), mem)
 }
 
 fn decode(w: Plan, mem: &[u32], code: u32) -> Plan
@@ -65,10 +65,10 @@ fn decode(w: Plan, mem: &[u32], code: u32) -> Plan
     ensures { λ r. ⌜ (view r ≡ rules.decode (now (mem .entry)) code (view w)) × Ended 12 w r ⌝ }
 {
     if code == 2 {
-        return store::put_core(w, stack::registers::pfix(store::core_of(w)));
+        return plan::put_core(w, stack::registers::pfix(plan::core_of(w)));
     }
     if code == 6 {
-        return store::put_core(w, stack::registers::nfix(store::core_of(w)));
+        return plan::put_core(w, stack::registers::nfix(plan::core_of(w)));
     }
     execute(w, mem, code)
 }
@@ -79,7 +79,7 @@ fn instruction(w: Plan, mem: &[u32]) -> Plan
     ensures { λ r. ⌜ (view r ≡ rules.instruction (now (mem .entry)) (view w)) × Ended 12 w r ⌝ }
 {
     let a = w.regs[IPTR_REG];
-    let b = store::byte_at(w, mem, a);
+    let b = loads::byte_at(w, mem, a);
     decode(fetched(store::fetch_byte(w, mem, a), b), mem, b >> 4)
 }
 
@@ -90,7 +90,7 @@ fn instruction_unless_idle(w: Plan, mem: &[u32]) -> Plan
     if w.regs[FLAGS_REG] & IDLE_FLAG == 0 {
         return instruction(w, mem);
     }
-    store::refuse(w, IDLE)
+    plan::refuse(w, IDLE)
 }
 
 // (b) A timer that is ready.
@@ -134,7 +134,7 @@ pub fn step(regs: [u32; REGISTERS], mem: &[u32]) -> Plan
     ensures { λ r. ⌜ (view r ≡ rules.step (now (mem .entry)) (begin regs)) × (r .cut ≤ r .n) × (r .n ≤ 16) ⌝ }
 {
     if regs[FLAGS_REG] & HALTED_FLAG == 0 {
-        return halt_on_error(choose(store::begin(regs), mem), regs[STATUS_REG]);
+        return halt_on_error(choose(plan::begin(regs), mem), regs[STATUS_REG]);
     }
-    store::refuse(store::begin(regs), HALTED)
+    plan::refuse(plan::begin(regs), HALTED)
 }

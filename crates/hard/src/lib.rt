@@ -1,6 +1,7 @@
 // Hard channels: the transfer of a link or of the event channel is started (000 1.10; 01, Links, clocks, slice).
 use links::event_meets;
 use links::receive;
+use loads::word_at;
 use names::ACTIVE_BIT;
 use names::AREG;
 use names::BREG;
@@ -13,15 +14,14 @@ use names::LINK_CHANS;
 use names::NOT_PROCESS;
 use names::POINTER_REG;
 use names::WDESC_REG;
+use plan::Plan;
+use plan::goto_snp;
+use plan::lower;
+use plan::put;
+use plan::raise;
 use schedule::save_iptr;
-use store::Plan;
-use store::goto_snp;
 use store::load_word;
-use store::lower;
-use store::put;
-use store::raise;
 use store::w_index_word;
-use store::word_at;
 use words::at_word;
 use words::held_byte;
 use words::index_of;
@@ -29,7 +29,7 @@ ghost use mathlib.Core.Path.{_≡_};
 ghost use Prim.Native.Nat.{_<_};
 ghost use Rattle.rules.specs.Registers as registers;
 ghost use Rattle.rules.specs.Channels as rules;
-ghost use Rattle.store.specs.View.{view, Room, Grown};
+ghost use Rattle.plan.specs.View.{view, Room, Grown};
 
 // Pointer, count and active are set; the other bits stay (DECISIONS 31).
 fn start_transfer(w: Plan, c: usize) -> Plan

@@ -9,7 +9,7 @@ use lib.ListN.{length, getD, set, take, drop}
 use lib.Seq.{slice, slice-cons}
 use Rattle.rules.specs.Memory.{word, moved, within, storing, stores}
 use Rattle.laws.proofs.Stores.{stores-append}
-use Rattle.store.specs.View.{singles, moves, logged}
+use Rattle.plan.specs.View.{singles, moves, logged}
 
 singles-length : (is vs : List ℕ) → length is ≡ length vs → length (singles is vs) ≡ length is
 singles-length [] vs e = refl

@@ -1,9 +1,9 @@
 // The journal of a machine's calls: each accepted call appends a record, and undo takes the last one back.
 use frame::FRAME;
+use plan::Plan;
 use rules::Answer;
 use rules::Machine;
 use rules::Reply;
-use store::Plan;
 ghost use mathlib.Core.Path.{_≡_};
 ghost use mathlib.Core.Bool.{false};
 ghost use Prim.Native.Nat.{_+_, _<_, _≤_};
@@ -11,7 +11,7 @@ ghost use lib.ListN.{length};
 ghost use Rattle.rules.specs.Memory.{stores, touched};
 ghost use Rattle.rules.specs.Journal as rules;
 ghost use Rattle.rules.specs.Calls.{outcomeOf, recorded, undoLast};
-ghost use Rattle.store.specs.View.{view};
+ghost use Rattle.plan.specs.View.{view};
 
 mod make;
 

@@ -1,12 +1,12 @@
 // The stores of a plan, made in program order: single stores, the move, single stores.
-use store::Plan;
+use plan::Plan;
 ghost use mathlib.Core.Path.{_≡_};
 ghost use mathlib.Core.List.{_++_};
 ghost use Prim.Native.Nat.{_≤_};
 ghost use lib.ListN.{length, set, take};
 ghost use lib.Seq.{slice};
 ghost use Rattle.rules.specs.Memory.{stores};
-ghost use Rattle.store.specs.View.{singles, moves, view};
+ghost use Rattle.plan.specs.View.{singles, moves, view};
 
 // One store; outside of memory it is none.
 fn put_one(mem: &mut [u32], i: u32, v: u32)

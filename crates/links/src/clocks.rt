@@ -6,13 +6,13 @@ use names::FLAGS_REG;
 use names::PRESCALER_REG;
 use names::SLICE_LENGTH;
 use names::SLICE_REG;
-use store::Plan;
-use store::put;
+use plan::Plan;
+use plan::put;
 use words::at_byte;
 ghost use mathlib.Core.Path.{_≡_};
 ghost use Prim.Native.Nat.{_+_};
 ghost use Rattle.rules.specs.Links as rules;
-ghost use Rattle.store.specs.View.{view, Grown};
+ghost use Rattle.plan.specs.View.{view, Grown};
 
 pub fn tick_slice(w: Plan) -> Plan
     ensures { λ r. ⌜ (view r ≡ rules.tickSlice (view w)) × Grown 0 w r ⌝ }

@@ -1,5 +1,6 @@
 // Links and the event channel on a plan: what take, give and event do, and what an `in` that finds something held does (01, Links, clocks, slice).
 // One function for each definition of rules/specs/Links.antt. The words of channel c stand at 3 * c from the registers of channel 0.
+use loads::byte_at;
 use names::ACTIVE_BIT;
 use names::CHANNEL_REG;
 use names::COUNT_REG;
@@ -13,13 +14,12 @@ use names::NOT_READY;
 use names::POINTER_REG;
 use names::READY_REQUEST;
 use names::RUN_REQUEST;
-use store::Plan;
-use store::byte_at;
+use plan::Plan;
+use plan::lower;
+use plan::put;
+use plan::raise;
+use plan::refuse;
 use store::load_byte;
-use store::lower;
-use store::put;
-use store::raise;
-use store::refuse;
 use store::store_byte;
 use words::at_byte;
 use words::with_held_byte;
@@ -28,7 +28,7 @@ ghost use mathlib.Core.Bool.{true, false};
 ghost use Prim.Native.Nat.{_+_, _<_};
 ghost use Rattle.rules.specs.Registers as registers;
 ghost use Rattle.rules.specs.Links as rules;
-ghost use Rattle.store.specs.View.{view, Room, Grown};
+ghost use Rattle.plan.specs.View.{view, Room, Grown};
 
 pub mod clocks;
 

@@ -1,10 +1,10 @@
 // Which operation a code names (000 1.11), a third of the table of rules: a match of eighty arms is dear to prove.
 use names::UNLISTED;
-use store::Plan;
+use plan::Plan;
 ghost use mathlib.Core.Path.{_≡_};
 ghost use Prim.Native.Nat.{_<_, _≤_};
 ghost use Rattle.rules.specs.Operations as rules;
-ghost use Rattle.store.specs.View.{view, Room, Ended};
+ghost use Rattle.plan.specs.View.{view, Room, Ended};
 
 // Operations #20 to #3F.
 pub fn operate_middle(w: Plan, mem: &[u32], code: u32) -> Plan
@@ -14,32 +14,32 @@ pub fn operate_middle(w: Plan, mem: &[u32], code: u32) -> Plan
     match code {
         0x20 => data::ret(w, mem),
         0x21 => processes::lend(w, mem),
-        0x22 => store::put_core(
+        0x22 => plan::put_core(
             w,
-            stack::clocks::ldtimer(store::core_of(w), store::system_of(w)),
+            stack::clocks::ldtimer(plan::core_of(w), plan::system_of(w)),
         ),
-        0x29 => store::put_core(w, stack::checks::testerr(store::core_of(w))),
-        0x2A => store::put_core(w, stack::registers::testpranal(store::core_of(w))),
+        0x29 => plan::put_core(w, stack::checks::testerr(plan::core_of(w))),
+        0x2A => plan::put_core(w, stack::registers::testpranal(plan::core_of(w))),
         0x2B => timers::tin(w, mem),
-        0x2C => store::put_core(w, arith::div(store::core_of(w))),
+        0x2C => plan::put_core(w, arith::div(plan::core_of(w))),
         0x2E => timers::dist(w, mem),
         0x2F => alternatives::disc(w, mem),
         0x30 => alternatives::diss(w, mem),
-        0x31 => store::put_core(w, long::lmul(store::core_of(w))),
-        0x32 => store::put_core(w, stack::logic::bitnot(store::core_of(w))),
-        0x33 => store::put_core(w, stack::logic::xor(store::core_of(w))),
-        0x34 => store::put_core(w, stack::logic::bcnt(store::core_of(w))),
-        0x35 => store::attempted(w, long::lshr(store::core_of(w))),
-        0x36 => store::attempted(w, long::lshl(store::core_of(w))),
-        0x37 => store::put_core(w, long::lsum(store::core_of(w))),
-        0x38 => store::put_core(w, long::lsub(store::core_of(w))),
+        0x31 => plan::put_core(w, long::lmul(plan::core_of(w))),
+        0x32 => plan::put_core(w, stack::logic::bitnot(plan::core_of(w))),
+        0x33 => plan::put_core(w, stack::logic::xor(plan::core_of(w))),
+        0x34 => plan::put_core(w, stack::logic::bcnt(plan::core_of(w))),
+        0x35 => plan::attempted(w, long::lshr(plan::core_of(w))),
+        0x36 => plan::attempted(w, long::lshl(plan::core_of(w))),
+        0x37 => plan::put_core(w, long::lsum(plan::core_of(w))),
+        0x38 => plan::put_core(w, long::lsub(plan::core_of(w))),
         0x39 => processes::runp(w, mem),
-        0x3A => store::put_core(w, arith::partword::xword(store::core_of(w))),
+        0x3A => plan::put_core(w, arith::partword::xword(plan::core_of(w))),
         0x3B => data::sb(w, mem),
-        0x3C => store::put_core(w, stack::registers::gajw(store::core_of(w))),
+        0x3C => plan::put_core(w, stack::registers::gajw(plan::core_of(w))),
         0x3D => data::savel(w, mem),
         0x3E => data::saveh(w, mem),
-        0x3F => store::put_core(w, stack::logic::wcnt(store::core_of(w))),
-        _ => store::refuse(w, UNLISTED),
+        0x3F => plan::put_core(w, stack::logic::wcnt(plan::core_of(w))),
+        _ => plan::refuse(w, UNLISTED),
     }
 }

@@ -1,10 +1,10 @@
 // Which function a byte names, and which operation Oreg names (000 1.11). The tables are those of rules.
 use names::OREG;
 use names::UNLISTED;
-use store::Plan;
+use plan::Plan;
 ghost use mathlib.Core.Path.{_≡_};
 ghost use Rattle.rules.specs.Operations as rules;
-ghost use Rattle.store.specs.View.{view, Room, Ended};
+ghost use Rattle.plan.specs.View.{view, Room, Ended};
 
 // Operate, in three parts: a match of eighty arms is dear to prove.
 fn operate(w: Plan, mem: &[u32], code: u32) -> Plan
@@ -27,19 +27,19 @@ pub fn function(w: Plan, mem: &[u32], code: u32) -> Plan
 {
     match code {
         0x0 => processes::j(w, mem),
-        0x1 => store::put_core(w, stack::registers::ldlp(store::core_of(w))),
+        0x1 => plan::put_core(w, stack::registers::ldlp(plan::core_of(w))),
         0x3 => data::ldnl(w, mem),
-        0x4 => store::put_core(w, stack::registers::ldc(store::core_of(w))),
-        0x5 => store::put_core(w, stack::registers::ldnlp(store::core_of(w))),
+        0x4 => plan::put_core(w, stack::registers::ldc(plan::core_of(w))),
+        0x5 => plan::put_core(w, stack::registers::ldnlp(plan::core_of(w))),
         0x7 => data::ldl(w, mem),
-        0x8 => store::put_core(w, arith::adc(store::core_of(w))),
+        0x8 => plan::put_core(w, arith::adc(plan::core_of(w))),
         0x9 => data::call(w, mem),
-        0xA => store::put_core(w, stack::registers::cj(store::core_of(w))),
-        0xB => store::put_core(w, stack::registers::ajw(store::core_of(w))),
-        0xC => store::put_core(w, stack::registers::eqc(store::core_of(w))),
+        0xA => plan::put_core(w, stack::registers::cj(plan::core_of(w))),
+        0xB => plan::put_core(w, stack::registers::ajw(plan::core_of(w))),
+        0xC => plan::put_core(w, stack::registers::eqc(plan::core_of(w))),
         0xD => data::stl(w, mem),
         0xE => data::stnl(w, mem),
         0xF => operate(w, mem, w.regs[OREG]),
-        _ => store::refuse(w, UNLISTED),
+        _ => plan::refuse(w, UNLISTED),
     }
 }

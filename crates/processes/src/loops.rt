@@ -5,8 +5,8 @@ use names::BREG;
 use names::CREG;
 use names::IPTR_REG;
 use names::MINUS_ONE;
-use store::Plan;
-use store::put;
+use plan::Plan;
+use plan::put;
 use store::r_index_word;
 use store::w_index_word;
 use switching::marks::add_to_c;
@@ -14,7 +14,7 @@ use words::positive;
 ghost use mathlib.Core.Path.{_≡_};
 ghost use Prim.Native.Nat.{_-_};
 ghost use Rattle.rules.specs.Words.{range, atByte};
-ghost use Rattle.store.specs.View.{view, Room, Grown};
+ghost use Rattle.plan.specs.View.{view, Room, Grown};
 ghost use Rattle.rules.specs.Scheduling as rules;
 
 // The address n bytes back; addresses wrap.

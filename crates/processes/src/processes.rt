@@ -1,4 +1,5 @@
 // The instructions that start, end and run processes (000 1.11, Scheduling).
+use loads::word_at;
 use names::AREG;
 use names::BREG;
 use names::IPTR_REG;
@@ -6,18 +7,17 @@ use names::IPTR_S;
 use names::MINUS_ONE;
 use names::PRIORITY_MASK;
 use names::WDESC_REG;
+use plan::Plan;
+use plan::goto_snp;
+use plan::put;
 use schedule::running::run;
-use store::Plan;
-use store::goto_snp;
 use store::load_word;
-use store::put;
 use store::r_index_word;
 use store::w_index_word;
-use store::word_at;
 use words::at_byte;
 use words::at_word;
 ghost use mathlib.Core.Path.{_≡_};
-ghost use Rattle.store.specs.View.{view, Room, Grown};
+ghost use Rattle.plan.specs.View.{view, Room, Grown};
 ghost use Rattle.rules.specs.Scheduling as rules;
 
 // Start process.

@@ -7,14 +7,14 @@ use names::PRIORITY_MASK;
 use names::SLICE_LENGTH;
 use names::SLICE_REG;
 use names::WDESC_REG;
+use plan::Plan;
+use plan::goto_snp;
+use plan::put;
 use schedule::running::run;
 use schedule::stopping::save_iptr;
-use store::Plan;
-use store::goto_snp;
-use store::put;
 use words::at_byte;
 ghost use mathlib.Core.Path.{_≡_};
-ghost use Rattle.store.specs.View.{view, Room, Grown};
+ghost use Rattle.plan.specs.View.{view, Room, Grown};
 ghost use Rattle.rules.specs.Scheduling as rules;
 
 // The process has run for a slice: it goes to the back of its list.

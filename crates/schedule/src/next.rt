@@ -8,16 +8,16 @@ use names::PRIORITY_MASK;
 use names::STATUS_REG;
 use names::WDESC_REG;
 use names::WPTR_MASK;
-use store::Plan;
-use store::lower;
-use store::put;
+use plan::Plan;
+use plan::lower;
+use plan::put;
 use switching::marks::set_idle;
 use switching::queues::activate_process;
 use switching::queues::dequeue;
 use switching::saved::restore_registers;
 ghost use mathlib.Core.Path.{_≡_};
 ghost use Prim.Native.Nat.{_<_};
-ghost use Rattle.store.specs.View.{view, Room, Grown};
+ghost use Rattle.plan.specs.View.{view, Room, Grown};
 ghost use Rattle.rules.specs.Scheduling as rules;
 
 // The front of a level's list starts.

@@ -8,15 +8,15 @@ use names::PRIORITY_MASK;
 use names::STATUS_REG;
 use names::WDESC_REG;
 use names::WPTR_MASK;
-use store::Plan;
-use store::put;
+use plan::Plan;
+use plan::put;
 use switching::marks::mask_status;
 use switching::queues::activate_process;
 use switching::queues::enqueue;
 use switching::saved::save_registers;
 use words::level;
 ghost use mathlib.Core.Path.{_≡_};
-ghost use Rattle.store.specs.View.{view, Room, Grown};
+ghost use Rattle.plan.specs.View.{view, Room, Grown};
 ghost use Rattle.rules.specs.Scheduling as rules;
 
 // A high process interrupts a low one.

@@ -1,4 +1,5 @@
 // PROC IsThisSelectedProcess (000 1.10), which all disable operations use, and B made of C.
+use loads::word_at;
 use names::AREG;
 use names::BREG;
 use names::CREG;
@@ -7,15 +8,14 @@ use names::MACHINE_TRUE;
 use names::NONE_SELECTED;
 use names::WDESC_REG;
 use names::WPTR_MASK;
-use store::Plan;
+use plan::Plan;
+use plan::put;
 use store::load_word;
-use store::put;
 use store::w_index_word;
-use store::word_at;
 use words::at_word;
 ghost use mathlib.Core.Path.{_≡_};
 ghost use Rattle.rules.specs.Timers as rules;
-ghost use Rattle.store.specs.View.{view, Room, Grown};
+ghost use Rattle.plan.specs.View.{view, Room, Grown};
 
 pub fn drop_b(w: Plan) -> Plan
     ensures { λ r. ⌜ (view r ≡ rules.dropB (view w)) × Grown 0 w r ⌝ }

@@ -7,11 +7,11 @@ use names::STATUS_REG;
 use names::WAITING;
 use names::WDESC_REG;
 use names::WPTR_MASK;
-use store::Plan;
-use store::goto_snp;
+use plan::Plan;
+use plan::goto_snp;
 use store::w_index_word;
 ghost use mathlib.Core.Path.{_≡_};
-ghost use Rattle.store.specs.View.{view, Room, Grown};
+ghost use Rattle.plan.specs.View.{view, Room, Grown};
 ghost use Rattle.rules.specs.Scheduling as rules;
 
 pub fn save_iptr(w: Plan, mem: &[u32]) -> Plan

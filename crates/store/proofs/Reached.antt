@@ -7,7 +7,7 @@ use lib.ListN.{length}
 use Rattle.rules.specs.Words.{range, atByte, offset, index}
 use Rattle.rules.specs.Work.{kindLoad, kindStore, moveOutside}
 use Rattle.rules.proofs.Tests.{yes-lt, no-lt, cases-lt}
-use Rattle.store.specs.Places.{reach}
+use Rattle.loads.specs.Places.{reach}
 
 module _ (size a n : ℕ) where
   reach-in : index a < size → reach size a (suc n) ≡ suc (reach size (atByte a 1) n)

@@ -10,10 +10,10 @@ use Rattle.rules.specs.Words.{atByte, offset, index}
 use Rattle.rules.specs.Memory.{bytes, byteIn, setByteIn, moved, within, storing, stores}
 use Rattle.rules.specs.Work.{Work, begin, append, wordAt, byteAt, access, storeWord, moveOutside, settleMove, transfer}
 use Rattle.rules.proofs.Tests.{yes-lt, no-lt, yes-eq, no-eq, cases-lt}
-use Rattle.store.specs.View.{moves}
-use Rattle.store.specs.Places.{cameFrom}
-use Rattle.store.proofs.Moved.{came-byte}
-use Rattle.store.proofs.Stored.{stores-length, stores-append, read-here, move-inside}
+use Rattle.plan.specs.View.{moves}
+use Rattle.loads.specs.Places.{cameFrom}
+use Rattle.loads.proofs.Moved.{came-byte}
+use Rattle.loads.proofs.Stored.{stores-length, stores-append, read-here, move-inside}
 use Rattle.store.proofs.Reached.{reach-is, outside-none}
 
 -- a byte at an address is one of memory after the stores, at its place

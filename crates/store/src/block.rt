@@ -1,7 +1,7 @@
 // The block move: where it first leaves memory, and its place in the plan.
-use crate::Plan;
 use names::KIND_LOAD;
 use names::KIND_STORE;
+use plan::Plan;
 use words::at_byte;
 use words::offset;
 ghost use mathlib.Core.Path.{_≡_};
@@ -9,8 +9,8 @@ ghost use Prim.Native.Nat.{_<_};
 ghost use lib.ListN.{length};
 ghost use Rattle.rules.specs.Memory.{bytes};
 ghost use Rattle.rules.specs.Work as rules;
-ghost use Rattle.store.specs.View.{view, Room, Ended};
-ghost use Rattle.store.specs.Places as places;
+ghost use Rattle.plan.specs.View.{view, Room, Ended};
+ghost use Rattle.loads.specs.Places as places;
 
 // The first access of a move that is outside memory; kind 0 where there is none.
 pub struct First {

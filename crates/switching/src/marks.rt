@@ -8,13 +8,13 @@ use names::SLICE_REG;
 use names::STATUS_REG;
 use names::WDESC_REG;
 use names::WPTR_MASK;
-use store::Plan;
-use store::lower;
-use store::put;
-use store::raise;
+use plan::Plan;
+use plan::lower;
+use plan::put;
+use plan::raise;
 use words::at_byte;
 ghost use mathlib.Core.Path.{_≡_};
-ghost use Rattle.store.specs.View.{view, Grown};
+ghost use Rattle.plan.specs.View.{view, Grown};
 ghost use Rattle.rules.specs.Scheduling as rules;
 
 // 000 finds no process to start or resume.

@@ -10,13 +10,13 @@ use names::NOT_PROCESS;
 use names::OREG;
 use names::WDESC_REG;
 use names::WPTR_MASK;
-use store::Plan;
-use store::put;
+use plan::Plan;
+use plan::put;
 use store::r_index_word;
 use store::w_index_word;
 ghost use mathlib.Core.Path.{_≡_};
 ghost use Prim.Native.Nat.{_<_};
-ghost use Rattle.store.specs.View.{view, Room, Grown};
+ghost use Rattle.plan.specs.View.{view, Room, Grown};
 ghost use Rattle.rules.specs.Scheduling as rules;
 ghost use Rattle.rules.specs.Registers as registers;
 

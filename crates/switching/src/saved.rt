@@ -16,12 +16,12 @@ use names::STATUS_INT_SAVE;
 use names::STATUS_REG;
 use names::WDESC_INT_SAVE;
 use names::WDESC_REG;
-use store::Plan;
+use plan::Plan;
 use store::r_index_word;
 use store::w_index_word;
 ghost use mathlib.Core.Path.{_≡_};
 ghost use Prim.Native.Nat.{_<_};
-ghost use Rattle.store.specs.View.{view, Room, Grown};
+ghost use Rattle.plan.specs.View.{view, Room, Grown};
 ghost use Rattle.rules.specs.Scheduling as rules;
 ghost use Rattle.rules.specs.Registers as registers;
 

@@ -18,8 +18,8 @@ use Rattle.rules.proofs.Tests.{yes-eq, no-eq}
 use Rattle.laws.proofs.Fine.{Fine, Known, fine-begin}
 use Rattle.laws.proofs.FineLinks.{fine-tick, fine-take, fine-give, fine-event}
 use Rattle.laws.proofs.FineStep.{fine-step}
-use Rattle.store.specs.View.{view}
-use Rattle.store.specs.declared.Plan.{Plan}
+use Rattle.plan.specs.View.{view}
+use Rattle.plan.specs.declared.Plan.{Plan}
 use Rattle.checks.specs.Checks.{firstBad}
 use Rattle.checks.proofs.Refusing.{passed, fits, frame-good}
 

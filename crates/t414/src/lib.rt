@@ -56,7 +56,7 @@ pub fn tick(m: Machine, mem: &mut [u32], journal: &mut [u32]) -> Reply
         return checks::refuse(m, number);
     }
     let regs = m.regs;
-    let p = links::clocks::tick(store::begin(regs));
+    let p = links::clocks::tick(plan::begin(regs));
     settle::settle(m, p, 0, mem, journal)
 }
 
@@ -70,7 +70,7 @@ pub fn take(m: Machine, mem: &mut [u32], journal: &mut [u32], channel: u32) -> R
     }
     let c = channel as usize;
     let regs = m.regs;
-    let w = store::begin(regs);
+    let w = plan::begin(regs);
     let byte = links::taken(w, mem, c);
     let p = links::take(w, mem, c);
     settle::settle(m, p, byte as u8, mem, journal)
@@ -91,7 +91,7 @@ pub fn give(m: Machine, mem: &mut [u32], journal: &mut [u32], channel: u32, byte
         return checks::refuse(m, number);
     }
     let regs = m.regs;
-    let p = links::give(store::begin(regs), mem, channel as usize, byte as u32);
+    let p = links::give(plan::begin(regs), mem, channel as usize, byte as u32);
     settle::settle(m, p, 0, mem, journal)
 }
 
@@ -104,7 +104,7 @@ pub fn event(m: Machine, mem: &mut [u32], journal: &mut [u32]) -> Reply
         return checks::refuse(m, number);
     }
     let regs = m.regs;
-    let p = links::event(store::begin(regs));
+    let p = links::event(plan::begin(regs));
     settle::settle(m, p, 0, mem, journal)
 }
 

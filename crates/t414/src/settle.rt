@@ -1,8 +1,8 @@
 // What a worked-out plan comes to.
 use checks::refuse;
+use plan::Plan;
 use rules::Machine;
 use rules::Reply;
-use store::Plan;
 ghost use mathlib.Core.Path.{_≡_};
 ghost use mathlib.Core.Bool.{false};
 ghost use Prim.Native.Nat.{_≤_};
@@ -11,7 +11,7 @@ ghost use Rattle.rules.specs.Work.{begin};
 ghost use Rattle.rules.specs.Step as steps;
 ghost use Rattle.rules.specs.Journal.{frameBad};
 ghost use Rattle.rules.specs.Calls.{outcomeOf, settled};
-ghost use Rattle.store.specs.View.{view};
+ghost use Rattle.plan.specs.View.{view};
 
 // A plan that was refused answers its number; any other is committed.
 pub fn settle(m: Machine, p: Plan, byte: u8, mem: &mut [u32], journal: &mut [u32]) -> Reply

@@ -2,6 +2,7 @@
 use crate::queues::set_next;
 use crate::queues::t_enabled;
 use crate::queues::tptr_loc;
+use loads::word_at;
 use names::BREG;
 use names::CREG;
 use names::FLAGS_REG;
@@ -13,18 +14,17 @@ use names::TIMER_BASE;
 use names::TLINK_S;
 use names::WDESC_REG;
 use names::WPTR_MASK;
-use store::Plan;
+use plan::Plan;
+use plan::lower;
+use plan::refuse;
 use store::load_word;
-use store::lower;
 use store::r_index_word;
-use store::refuse;
 use store::w_index_word;
-use store::word_at;
 use words::at_word;
 use words::level;
 ghost use mathlib.Core.Path.{_≡_};
 ghost use Rattle.rules.specs.Timers as rules;
-ghost use Rattle.store.specs.View.{view, Room, Grown};
+ghost use Rattle.plan.specs.View.{view, Room, Grown};
 
 // PROC DeleteFinalStep.
 fn delete_next(w: Plan, mem: &[u32]) -> Plan

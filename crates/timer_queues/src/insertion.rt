@@ -1,6 +1,7 @@
 // Insertion into a timer queue (000 1.10): the time is in A; B and C are left with the front of the queue and the next process.
 use crate::queues::set_next;
 use crate::queues::tptr_loc;
+use loads::word_at;
 use names::AREG;
 use names::BREG;
 use names::CREG;
@@ -14,21 +15,20 @@ use names::TLINK_S;
 use names::WAITING;
 use names::WDESC_REG;
 use names::WPTR_MASK;
+use plan::Plan;
+use plan::goto_snp;
+use plan::put;
+use plan::refuse;
 use schedule::save_iptr;
-use store::Plan;
-use store::goto_snp;
 use store::load_word;
-use store::put;
 use store::r_index_word;
-use store::refuse;
 use store::w_index_word;
-use store::word_at;
 use words::at_word;
 use words::later;
 use words::level;
 ghost use mathlib.Core.Path.{_≡_};
 ghost use Rattle.rules.specs.Timers as rules;
-ghost use Rattle.store.specs.View.{view, Room, Grown};
+ghost use Rattle.plan.specs.View.{view, Room, Grown};
 
 // PROC InsertFinalStep.
 fn insert_next(w: Plan, mem: &[u32]) -> Plan

@@ -8,10 +8,10 @@ use names::TIME_S;
 use names::TIMER_BASE;
 use names::TNEXT_REG;
 use names::WDESC_REG;
-use store::Plan;
-use store::put;
+use plan::Plan;
+use plan::put;
+use plan::raise;
 use store::r_index_word;
-use store::raise;
 use words::at_byte;
 use words::at_word;
 use words::later;
@@ -19,7 +19,7 @@ ghost use mathlib.Core.Path.{_≡_};
 ghost use Prim.Native.Nat.{_<_};
 ghost use Rattle.rules.specs.Registers as registers;
 ghost use Rattle.rules.specs.Timers as rules;
-ghost use Rattle.store.specs.View.{view, Room, Grown};
+ghost use Rattle.plan.specs.View.{view, Room, Grown};
 
 // TEnabled, as a mask of the flags.
 pub fn t_enabled(queue: usize) -> u32

@@ -1,4 +1,5 @@
 // Timer guards (000 1.11): enable timer and disable timer.
+use loads::word_at;
 use names::AREG;
 use names::BREG;
 use names::CREG;
@@ -10,20 +11,19 @@ use names::TIME_SET;
 use names::TLINK_S;
 use names::WDESC_REG;
 use names::WPTR_MASK;
+use plan::Plan;
+use plan::put;
+use plan::refuse;
 use schedule::drop_b;
 use schedule::is_this_selected_process;
-use store::Plan;
 use store::load_word;
-use store::put;
-use store::refuse;
 use store::w_index_word;
-use store::word_at;
 use timer_queues::deletion::delete_first_step;
 use words::at_word;
 use words::later;
 ghost use mathlib.Core.Path.{_≡_};
 ghost use Rattle.rules.specs.Timers as rules;
-ghost use Rattle.store.specs.View.{view, Room, Grown};
+ghost use Rattle.plan.specs.View.{view, Room, Grown};
 
 // The first timer guard of the alternative.
 fn enbt_first(w: Plan, mem: &[u32]) -> Plan

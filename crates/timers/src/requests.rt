@@ -1,4 +1,5 @@
 // PROC HandleTimerRequest (000 1.8): the front process of a queue is taken off, and runs if it was waiting.
+use loads::word_at;
 use names::FLAGS_REG;
 use names::NOT_PROCESS;
 use names::POINTER_S;
@@ -8,13 +9,12 @@ use names::TIME_SET;
 use names::TIMER_BASE;
 use names::TLINK_S;
 use names::WAITING;
+use plan::Plan;
+use plan::lower;
+use plan::refuse;
 use schedule::run;
-use store::Plan;
 use store::load_word;
-use store::lower;
-use store::refuse;
 use store::w_index_word;
-use store::word_at;
 use timer_queues::queues::set_next;
 use timer_queues::queues::t_enabled;
 use timer_queues::queues::tptr_loc;
@@ -22,7 +22,7 @@ use words::at_word;
 ghost use mathlib.Core.Path.{_≡_};
 ghost use Prim.Native.Nat.{_<_};
 ghost use Rattle.rules.specs.Timers as rules;
-ghost use Rattle.store.specs.View.{view, Room, Grown};
+ghost use Rattle.plan.specs.View.{view, Room, Grown};
 
 fn timed_out(w: Plan, mem: &[u32], queue: usize, front: u32) -> Plan
     requires { ⌜ (queue < 2) × Room 8 w ⌝ }

@@ -14,10 +14,10 @@ use names::TIME_SET;
 use names::TLINK_S;
 use names::WDESC_REG;
 use names::WPTR_MASK;
+use plan::Plan;
+use plan::refuse;
 use schedule::wait;
-use store::Plan;
 use store::r_index_word;
-use store::refuse;
 use store::w_index_word;
 use timer_queues::insertion::insert_first_step;
 use timer_queues::queues::next_time;
@@ -25,7 +25,7 @@ use words::later;
 use words::level;
 ghost use mathlib.Core.Path.{_≡_};
 ghost use Rattle.rules.specs.Timers as rules;
-ghost use Rattle.store.specs.View.{view, Room, Grown};
+ghost use Rattle.plan.specs.View.{view, Room, Grown};
 
 pub fn tin(w: Plan, mem: &[u32]) -> Plan
     requires { ⌜ Room 5 w ⌝ }

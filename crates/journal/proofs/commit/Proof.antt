@@ -6,7 +6,7 @@ use borrow.Author.Tests.{ltb-true, ltb-false}
 use Rattle.rules.specs.Memory.{stores, touched}
 use Rattle.rules.specs.Journal.{recordLength}
 use Rattle.rules.specs.declared.Answer.the-variants.{JournalFull}
-use Rattle.store.specs.View.{view}
+use Rattle.plan.specs.View.{view}
 use Rattle.frame.proofs.Frame.{frame-good}
 use Rattle.frame.proofs.Outcomes.{refusal-is, number-full, commit-full, commit-done}
 use borrow.Author.Needs.{needs}

@@ -1,6 +1,6 @@
 use Rattle.rules.proofs.Tests.{yes-eq, no-eq}
 use Rattle.rules.specs.Work.{append}
-use Rattle.store.proofs.Logged.{logged-more}
+use Rattle.loads.proofs.Logged.{logged-more}
 use borrow.Author.Needs.{needs}
 use Rattle.store.proofs.append_word.Statement.{statement}
 use Rattle.store.proofs.append_word.Tie as tie

@@ -3,7 +3,7 @@ use native.Mathlib.Omega.{arith}
 use Rattle.rules.specs.Channels.{requestFrom}
 use Prim.Native.Nat.{_+_, _-_, _≤_}
 use mathlib.Core.Path.{_≡_, refl, sym, _∙_}
-use Rattle.store.specs.View.{view}
+use Rattle.plan.specs.View.{view}
 use Rattle.channels.proofs.Lowest.{search-ends, found-here, not-here}
 use Rattle.channels.proofs.requests.request_from.Statement.{statement}
 use Rattle.channels.proofs.requests.request_from.Tie as tie

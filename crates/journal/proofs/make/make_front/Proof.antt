@@ -1,7 +1,7 @@
 use mathlib.Core.Path.{sym}
 use Prim.Native.Nat.{_-_}
 use lib.ListN.{take}
-use Rattle.store.specs.View.{singles, moves}
+use Rattle.plan.specs.View.{singles, moves}
 use Rattle.laws.proofs.Stores.{stores-append}
 use borrow.Author.Needs.{needs}
 use Rattle.journal.proofs.make.make_front.Statement.{statement}

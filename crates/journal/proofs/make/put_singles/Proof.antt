@@ -6,7 +6,7 @@ use Prim.Native.Nat.{ℕ, _-_, _≤_}
 use lib.ListN.{length}
 use lib.Seq.{slice, slice-empty}
 use Rattle.rules.specs.Memory.{stores}
-use Rattle.store.specs.View.{singles}
+use Rattle.plan.specs.View.{singles}
 use Rattle.journal.proofs.Made.{stores-turn, stores-none}
 use Rattle.journal.proofs.make.put_singles.Statement.{statement}
 use Rattle.journal.proofs.make.put_singles.Tie as tie

@@ -1,7 +1,7 @@
 use borrow.Author.Needs.{needs}
 use Rattle.rules.proofs.Tests.{yes-eq, no-eq}
 use Rattle.rules.specs.Work.{append}
-use Rattle.store.proofs.Logged.{logged-move, logged-plain}
+use Rattle.loads.proofs.Logged.{logged-move, logged-plain}
 use Rattle.store.proofs.block.append_move.Statement.{statement}
 use Rattle.store.proofs.block.append_move.Tie as tie
 

@@ -1,6 +1,6 @@
 use mathlib.Core.Path.{_∙_}
 use Prim.Native.Nat.{_-_}
-use Rattle.store.specs.View.{view}
+use Rattle.plan.specs.View.{view}
 use Rattle.t414.proofs.Settling.{settled-refused, settled-done}
 use borrow.Author.Needs.{needs}
 use Rattle.t414.proofs.settle.settle.Statement.{statement}

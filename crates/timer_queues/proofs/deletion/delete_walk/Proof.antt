@@ -3,7 +3,7 @@ use native.Mathlib.Omega.{arith}
 use Rattle.rules.specs.Timers.{deleteWalk}
 use Prim.Native.Nat.{_-_}
 use mathlib.Core.Path.{_≡_, refl, sym, _∙_}
-use Rattle.store.specs.View.{view, Grown}
+use Rattle.plan.specs.View.{view, Grown}
 use Rattle.timer_queues.proofs.Turns.{delete-out, delete-here, delete-on}
 use Rattle.timer_queues.proofs.deletion.delete_walk.Statement.{statement}
 use Rattle.timer_queues.proofs.deletion.delete_walk.Tie as tie

@@ -3,7 +3,7 @@ use native.Mathlib.Omega.{arith}
 use Rattle.rules.specs.Timers.{insertWalk}
 use Prim.Native.Nat.{_-_}
 use mathlib.Core.Path.{_≡_, refl, sym, _∙_}
-use Rattle.store.specs.View.{view, Grown}
+use Rattle.plan.specs.View.{view, Grown}
 use Rattle.timer_queues.proofs.Turns.{insert-out, insert-end, insert-here, insert-on}
 use Rattle.timer_queues.proofs.insertion.insert_walk.Statement.{statement}
 use Rattle.timer_queues.proofs.insertion.insert_walk.Tie as tie
