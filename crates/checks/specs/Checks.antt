@@ -9,11 +9,11 @@ use Rattle.rules.specs.Calls.{outcomeOf, refused, memoryBad, journalBad}
 use Rattle.rules.specs.declared.Machine.{Machine}
 use Rattle.rules.specs.declared.Reply.{Reply}
 
--- the first of Size, BadChannel, JournalBad that applies, by 01's number, else 0
+-- the first of Size, BadChannel, JournalBad that applies, by 01's number, else 0 (01, Answers by number)
 unfoldable pub firstBad : Bool → ℕ → ℕ → ℕ → ℕ → ℕ
 firstBad badChannel memory journal depth used =
     pick (memoryBad memory || journalBad journal) 1 (pick badChannel 3 (pick (frameBad journal depth used) 4 0))
 
--- a reply that alters nothing, whatever memory and journal are
+-- a reply that alters nothing, whatever memory and journal are (01, Answers by number)
 abbrev pub Refusal : ℕ → Machine → Reply → Type 0
 Refusal number m r = (mem j : List ℕ) → outcomeOf r mem j ≡ refused number m mem j

@@ -8,37 +8,45 @@ use Rattle.rules.specs.Calls as rules
 use Rattle.rules.specs.declared.Machine.{Machine}
 use Rattle.rules.specs.declared.Reply.{Reply}
 
--- what is handed in, and what comes out
+-- a contract: of the memory and journal handed in, and the reply, memory and journal that come out (01, What the contracts have to say)
 abbrev pub Contract : Type 1
 Contract = (mem j : List ℕ) (r : Reply) (mem′ j′ : List ℕ) → Type 0
 
+-- the contract of fresh (01, What the contracts have to say), by its definition (01, Memory and registers)
 abbrev pub FreshContract : (code : List ℕ) → Contract
 FreshContract code mem j r mem′ j′ = outcomeOf r mem′ j′ ≡ rules.fresh code mem j
 
+-- the contract of step (01, What the contracts have to say), by its definition (01, One step)
 abbrev pub StepContract : Machine → Contract
 StepContract m mem j r mem′ j′ = outcomeOf r mem′ j′ ≡ rules.step m mem j
 
+-- the contract of tick (01, What the contracts have to say), by its definition (01, Links, clocks, slice)
 abbrev pub TickContract : Machine → Contract
 TickContract m mem j r mem′ j′ = outcomeOf r mem′ j′ ≡ rules.tick m mem j
 
+-- the contract of take (01, What the contracts have to say), by its definition (01, Links, clocks, slice)
 abbrev pub TakeContract : (channel : ℕ) → Machine → Contract
 TakeContract channel m mem j r mem′ j′ = outcomeOf r mem′ j′ ≡ rules.take channel m mem j
 
+-- the contract of give (01, What the contracts have to say), by its definition (01, Links, clocks, slice)
 abbrev pub GiveContract : (channel byte : ℕ) → Machine → Contract
 GiveContract channel byte m mem j r mem′ j′ = outcomeOf r mem′ j′ ≡ rules.give channel byte m mem j
 
+-- the contract of event (01, What the contracts have to say), by its definition (01, Links, clocks, slice)
 abbrev pub EventContract : Machine → Contract
 EventContract m mem j r mem′ j′ = outcomeOf r mem′ j′ ≡ rules.event m mem j
 
+-- the contract of undo (01, What the contracts have to say), by its definition (01, The journal)
 abbrev pub UndoContract : Machine → Contract
 UndoContract m mem j r mem′ j′ = outcomeOf r mem′ j′ ≡ rules.undo m mem j
 
+-- the contract of clear (01, What the contracts have to say), by its definition (01, The part of the T414 that we build)
 abbrev pub ClearContract : Machine → Contract
 ClearContract m mem j r mem′ j′ = outcomeOf r mem′ j′ ≡ rules.clear m mem j
 
 -- ---- what the theorems say of them
 
--- two results of a call are the same: answer, byte, registers, depth, used and every lent word
+-- two results of a call are the same: answer, byte, registers, depth, used and every lent word (01, What the contracts have to say)
 pub record Same (r r′ : Reply) (mem mem′ j j′ : List ℕ) : Type 0 where
   pub answer : r .answer ≡ r′ .answer
   pub byte : r .byte ≡ r′ .byte
@@ -48,24 +56,26 @@ pub record Same (r r′ : Reply) (mem mem′ j j′ : List ℕ) : Type 0 where
   pub memory : mem ≡ mem′
   pub journal : j ≡ j′
 
--- no two results meet the contract
+-- no two results meet the contract: any two that meet it are the same (01, What the contracts have to say)
 abbrev pub OneAnswer : Contract → Type 0
 OneAnswer C = (mem j : List ℕ) (r₁ r₂ : Reply) (mem₁ mem₂ j₁ j₂ : List ℕ) → C mem j r₁ mem₁ j₁ → C mem j r₂ mem₂ j₂ → Same r₁ r₂ mem₁ mem₂ j₁ j₂
 
--- some result does
+-- some result meets the contract, from this memory and journal (01, What the contracts have to say)
 pub record Answered (C : Contract) (mem j : List ℕ) : Type 0 where
   pub reply : Reply
   pub memory : List ℕ
   pub journal : List ℕ
   pub meets : C mem j reply memory journal
 
+-- some result meets it, from any memory and journal (01, What the contracts have to say: from any input)
 abbrev pub Total : Contract → Type 0
 Total C = (mem j : List ℕ) → Answered C mem j
 
+-- the number of a reply's answer (01, Answers by number; DECISIONS 45)
 abbrev pub number : Reply → ℕ
 number r = numberOf (r .answer)
 
--- byte 0, and all as it was before the call
+-- byte 0, and all as it was before the call (01, Answers by number)
 pub record Unchanged (m : Machine) (mem j : List ℕ) (r : Reply) (mem′ j′ : List ℕ) : Type 0 where
   pub byte : r .byte ≡ 0
   pub registers : r .machine .regs ≡ m .regs
@@ -74,6 +84,6 @@ pub record Unchanged (m : Machine) (mem j : List ℕ) (r : Reply) (mem′ j′ :
   pub memory : mem′ ≡ mem
   pub journal : j′ ≡ j
 
--- a refused call leaves all as it was; m is the machine before it
+-- a refused call leaves all as it was; m is the machine before it, for fresh the one that is all 0 (01, Answers by number)
 abbrev pub RefusesCleanly : Machine → Contract → Type 0
 RefusesCleanly m C = (mem j : List ℕ) (r : Reply) (mem′ j′ : List ℕ) → C mem j r mem′ j′ → (number r ≡ 0 → ⊥) → Unchanged m mem j r mem′ j′

@@ -19,7 +19,7 @@ use Rattle.history.specs.Machine.{Effect, refused, accepted, Act, call, 
 
 -- ---- sequences of calls
 
--- the calls that add a record
+-- the calls that add a record (01, The journal)
 pub data Call : Type 0 where
   step : Call
   tick : Call
@@ -27,12 +27,13 @@ pub data Call : Type 0 where
   give : ℕ → ℕ → Call
   event : Call
 
--- all that the calls speak of
+-- all that the calls speak of: registers, depth, used and every lent word (01, What the contracts have to say)
 pub record Whole : Type 0 where
   pub machine : declared.Machine
   pub memory : List ℕ
   pub journal : List ℕ
 
+-- a call or an undo, by its definition in rules (01, The part of the T414 that we build: Calls)
 abbrev pub perform : Act Call → Whole → Outcome
 perform (call step) s = calls.step (s .machine) (s .memory) (s .journal)
 perform (call tick) s = calls.tick (s .machine) (s .memory) (s .journal)
@@ -41,27 +42,28 @@ perform (call (give c byte)) s = calls.give c byte (s .machine) (s .memory) (s .
 perform (call event) s = calls.event (s .machine) (s .memory) (s .journal)
 perform undo s = calls.undo (s .machine) (s .memory) (s .journal)
 
--- what a call leaves
+-- what a call leaves (01, What the contracts have to say: demand 3)
 abbrev pub after : Outcome → Whole
 after o = record { machine = o .machine; memory = o .memory; journal = o .journal }
 
--- the calls made one after the other
+-- the calls made one after the other (01, What the contracts have to say: demand 3)
 unfoldable pub run : List (Act Call) → Whole → Whole
 run [] s = s
 run (a ∷ acts) s = run acts (after (perform a s))
 
 -- the test: the call is accepted. An accepted call stands; an accepted undo takes the last one off
+-- (01, What the contracts have to say: demand 3)
 abbrev pub stack : Act Call → Bool → List Call → List Call
 stack (call c) true k = c ∷ k
 stack undo true k = drop 1 k
 stack a false k = k
 
--- the accepted calls that are not undone, the last one first, where those of k stood before
+-- the accepted calls that are not undone, the last one first, where those of k stood before (01, What the contracts have to say: demand 3)
 unfoldable pub standing : List (Act Call) → Whole → List Call → List Call
 standing [] s k = k
 standing (a ∷ acts) s k = standing acts (after (perform a s)) (stack a (eqb (perform a s .answer) 0) k)
 
--- what shows: registers, memory, depth, used, and the journal's words in use
+-- what shows: registers, memory, depth, used, and the journal's words in use (01, What the contracts have to say: demand 3)
 pub record Shown : Type 0 where
   pub registers : List ℕ
   pub memory : List ℕ
@@ -69,6 +71,7 @@ pub record Shown : Type 0 where
   pub used : ℕ
   pub records : List ℕ
 
+-- what shows of a state; the journal's words in use are the first `used` (01, The journal)
 abbrev pub shown : Whole → Shown
 shown s =
     record {
@@ -81,10 +84,12 @@ shown s =
 
 -- ---- registers and memory, and what a call does to them without a journal
 
+-- registers and memory (01, Memory and registers)
 pub record Plain : Type 0 where
   pub regs : List ℕ
   pub mem : List ℕ
 
+-- a call's work on them: that of the step, or of a link or clock call (01, One step; 01, Links, clocks, slice)
 abbrev pub work : Call → Plain → Work
 work step x = steps.step (x .mem) (begin (x .regs))
 work tick x = links.tick (begin (x .regs))
@@ -92,6 +97,7 @@ work (take c) x = links.take (x .mem) c (begin (x .regs))
 work (give c byte) x = links.give (x .mem) c byte (begin (x .regs))
 work event x = links.event (begin (x .regs))
 
+-- the byte that take hands over; 0 for any other call (01, Links, clocks, slice; DECISIONS 45)
 abbrev pub byteOf : Call → Plain → ℕ
 byteOf step x = 0
 byteOf tick x = 0
@@ -99,16 +105,18 @@ byteOf (take c) x = links.taken (x .mem) c (begin (x .regs))
 byteOf (give c byte) x = 0
 byteOf event x = 0
 
--- the words touched
+-- the words touched, which the record lists (01, The journal; DECISIONS 38)
 abbrev pub places : Plain → Work → List ℕ
 places x w = touched (length (x .mem)) (w .stored)
 
+-- what work does: refused with its number, or the new registers and memory and the record (01, The journal; DECISIONS 44)
 unfoldable pub effect : Plain → ℕ → Work → Effect Plain
 effect x byte w =
     ifEq (w .answer) 0
     (accepted (record { regs = w .regs; mem = stores (x .mem) (w .stored) }) (recordOf (x .mem) (x .regs) (places x w)) byte)
     (refused (w .answer))
 
+-- 3 BadChannel: take outside 0 to 3, give outside 4 to 7 (01, Answers by number)
 abbrev pub badChannel : Act Call → Bool
 badChannel (call step) = false
 badChannel (call tick) = false
@@ -117,19 +125,21 @@ badChannel (call (give c byte)) = notInput c
 badChannel (call event) = false
 badChannel undo = false
 
--- Size, BadChannel, JournalBad
+-- 1 Size, 3 BadChannel, 4 JournalBad by depth and used, in the table's order (01, Answers by number)
 unfoldable pub guard : Act Call → Plain → ℕ → ℕ → ℕ → Option ℕ
 guard a x size depth used =
     pick (memoryBad (length (x .mem)) || journalBad size) (some 1)
     (pick (badChannel a) (some 3) (pick (frameBad size depth used) (some 4) none))
 
--- the last record's registers, and its pairs written back
+-- the last record's registers, and its pairs written back; none where 4 JournalBad of undo applies
+-- (01, The journal; 01, Answers by number)
 unfoldable pub unrecord : Plain → ℕ → List ℕ → Option (Plain × ℕ)
 unrecord x used j =
     ifLt used (recordLength (lastPairs j used)) none
     (pick (strays (length (x .mem)) (pairsAt j (lastStart j used) (lastPairs j used))) none
     (some (record { regs = lastRegs j used; mem = writeBack (x .mem) (pairsAt j (lastStart j used) (lastPairs j used)) }, lastStart j used)))
 
+-- our calls as a machine of Machine.antt (01, What the contracts have to say: demand 3)
 abbrev pub t414 : Machine
 t414 =
     record {

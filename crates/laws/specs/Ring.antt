@@ -10,46 +10,48 @@ use Rattle.rules.specs.Words.{atWord, index, later}
 use Rattle.rules.specs.Work.{Work, wptr, wordAt}
 use Rattle.rules.specs.Scheduling.{notProcess, tlinkS, timeS}
 
--- p stands in the list
+-- p stands in the list of the pointer values passed (01, Answers by number, 11)
 abbrev pub has : ℕ → List ℕ → Bool
 has p [] = false
 has p (x ∷ xs) = pick (eqb p x) true (has p xs)
 
--- what a walk comes to: it ends at a pointer value, or runs in a ring
+-- what a walk comes to: it ends at a pointer value, or runs in a ring (01, Answers by number, 11; DECISIONS 27)
 pub data Way : Type 0 where
   end : ℕ → Way
   round : Way
 
 -- `Walks next ends passed p r`: from the pointer value p, with those of the list passed, the walk comes to r
+-- (01, Answers by number, 11; DECISIONS 27)
 pub data Walks (next : ℕ → ℕ) (ends : ℕ → Bool) : List ℕ → ℕ → Way → Type 0 where
   again : {passed : List ℕ} {p : ℕ} → has p passed ≡ true → Walks next ends passed p round
   stays : {passed : List ℕ} {p : ℕ} → has p passed ≡ false → ends p ≡ true → Walks next ends passed p (end p)
   goes : {passed : List ℕ} {p : ℕ} {r : Way} → has p passed ≡ false → ends p ≡ false → Walks next ends (p ∷ passed) (next p) r → Walks next ends passed p r
 
 module _ (m : List ℕ) (w : Work) where
-  -- the next pointer value: the word at p's TLink.s, through the stores so far
+  -- the next pointer value: the word at p's TLink.s, through the stores so far (000 1.10, InsertMiddleStep, DeleteMiddleStep)
   abbrev pub nextPointer : ℕ → ℕ
   nextPointer p = wordAt m (atWord p tlinkS) w
 
-  -- an address is outside memory: an access there is refused with 10, and nothing more is accessed
+  -- an address is outside memory: an access there is refused with 10, and nothing more is accessed (01, Answers by number; DECISIONS 44)
   abbrev pub isOutside : ℕ → Bool
   isOutside a = leb (length m) (index a)
 
-  -- insertion ends at p: it is NotProcess.p, its time is outside memory, the time to insert is not AFTER its time (the place is found), or
-  -- its link is outside memory
+  -- insertion ends at p: it is NotProcess.p, its time is outside memory, the time to insert is not AFTER its time (the place is
+  -- found), or its link is outside memory (000 1.10, InsertTest; 01, Answers by number, 10)
   unfoldable pub insertEnds : ℕ → ℕ → Bool
   insertEnds time p =
       pick (eqb p notProcess) true
       (pick (isOutside (atWord p timeS)) true
       (pick (later time (wordAt m (atWord p timeS) w)) (isOutside (atWord p tlinkS)) true))
 
-  -- deletion ends at p: it is the process itself, or its link is outside memory
+  -- deletion ends at p: it is the process itself, or its link is outside memory (000 1.10, DeleteTest; 01, Answers by number, 10)
   unfoldable pub deleteEnds : ℕ → Bool
   deleteEnds p = pick (eqb p (wptr w)) true (isOutside (atWord p tlinkS))
 
-  -- from the pointer value p, an insertion of a time, and a deletion, come again to a pointer value that they have passed
+  -- from the pointer value p, an insertion of a time comes again to a pointer value that it has passed (01, Answers by number, 11)
   abbrev pub InsertRing : ℕ → ℕ → Type 0
   InsertRing time p = Walks nextPointer (insertEnds time) [] p round
 
+  -- from the pointer value p, a deletion comes again to a pointer value that it has passed (01, Answers by number, 11)
   abbrev pub DeleteRing : ℕ → Type 0
   DeleteRing p = Walks nextPointer deleteEnds [] p round

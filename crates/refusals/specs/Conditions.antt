@@ -18,50 +18,56 @@ use Rattle.rules.specs.Step as steps
 use Rattle.rules.specs.Calls.{sizeBad, codeBad, notOutput, notInput}
 use Rattle.rules.specs.declared.Machine.{Machine}
 
--- the first number whose condition holds, 0 where none does
+-- the first number whose condition holds, 0 where none does (01, Answers by number: checks run in the order of the table)
 unfoldable pub firstOf : List (ℕ × Bool) → ℕ
 firstOf [] = 0
 firstOf (e ∷ es) = pick (e .1) (e .0) (firstOf es)
 
--- 4 JournalBad, in every call but fresh and clear
+-- 4 JournalBad, in every call but fresh and clear: used above the journal's length, or 46 x depth above used (01, Answers by number)
 abbrev pub frame : Machine → List ℕ → Bool
 frame m j = frameBad (length j) (m .depth) (m .used)
 
--- 4 JournalBad, of undo with depth above 0: the last record is longer than used, or a pair's index is N or more
+-- 4 JournalBad, of undo with depth above 0: the last record is longer than used (01, Answers by number)
 abbrev pub lastTooLong : Machine → List ℕ → Bool
 lastTooLong m j = ltb (m .used) (recordLength (lastPairs j (m .used)))
 
+-- 4 JournalBad, of undo with depth above 0: a pair's index is N or more (01, Answers by number)
 abbrev pub pairOutside : Machine → List ℕ → List ℕ → Bool
 pairOutside m mem j = strays (length mem) (pairsAt j (lastStart j (m .used)) (lastPairs j (m .used)))
 
--- 5 NothingToUndo
+-- 5 NothingToUndo: depth 0 (01, Answers by number)
 abbrev pub nothingToUndo : Machine → Bool
 nothingToUndo m = eqb (m .depth) 0
 
--- 6 Halted
+-- 6 Halted: the halted flag (01, Answers by number)
 abbrev pub isHalted : List ℕ → Bool
 isHalted r = ifSet haltedFlag (getD r flagsReg 0) true false
 
--- 7 Idle: idle, and neither (a) nor (b) applies, so that (c) would
+-- some channel has a request, or timer 0 or timer 1 is ready: where Oreg is 0, (a) or (b) applies (01, One step)
 abbrev pub asked : List ℕ → Bool
 asked r = ltb (requested (begin r)) linkChans || timerReady 0 (begin r) || timerReady 1 (begin r)
 
+-- neither (a) nor (b) applies, so that (c) would (01, One step)
 abbrev pub fetches : List ℕ → Bool
 fetches r = ifEq (getD r oreg 0) 0 (not (asked r)) true
 
+-- 7 Idle: idle, and neither (a) nor (b) applies (01, Answers by number; DECISIONS 19)
 unfoldable pub isIdle : List ℕ → Bool
 isIdle r = ifSet idleFlag (getD r flagsReg 0) (fetches r) false
 
--- 8 NotReady
+-- a link is moving: active, and its count is not 0 (01, Links, clocks, slice; DECISIONS 32)
 abbrev pub isMoving : ℕ → List ℕ → Bool
 isMoving c r = ifSet activeBit (getD r (channelReg c) 0) (ifEq (getD r (countReg c) 0) 0 false true) false
 
+-- a byte is held; of the event channel, an event (01, Memory and registers: channel flags, bit 2)
 abbrev pub isHeld : ℕ → List ℕ → Bool
 isHeld c r = ifSet heldBit (getD r (channelReg c) 0) true false
 
+-- 8 NotReady, of take: link not moving (01, Answers by number)
 abbrev pub takeNotReady : ℕ → List ℕ → Bool
 takeNotReady c r = not (isMoving c r)
 
+-- 8 NotReady, of give: not moving and a byte held; of event: not moving and one held (01, Answers by number)
 abbrev pub giveNotReady : ℕ → List ℕ → Bool
 giveNotReady c r = not (isMoving c r) && isHeld c r
 
@@ -74,11 +80,12 @@ isBuilt k =
     || (leb 0x29 k && leb k 0x2C)
     || (leb 0x2E k && leb k 0x59)
 
--- 9 Unlisted: the byte was fetched, and makes an operation outside the built list. The byte at Iptr; its function is `opr`; and Oreg with its
--- nibble is no code of the list
+-- the byte at Iptr, which (c) fetches (01, One step)
 abbrev pub nextByte : List ℕ → List ℕ → ℕ
 nextByte r mem = byteAt mem (getD r iptrReg 0) (begin r)
 
+-- 9 Unlisted: the byte was fetched, and makes an operation outside the built list: its function is `opr`, and Oreg with its nibble
+-- is no code of the list (01, Answers by number; DECISIONS 1)
 unfoldable pub isUnlisted : List ℕ → List ℕ → Bool
 isUnlisted r mem =
     fetches r
@@ -86,38 +93,43 @@ isUnlisted r mem =
     && eqb (nextByte r mem / 2 ^ 4) 0xF
     && not (isBuilt (withNibble (nextByte r mem) (getD r oreg 0)))
 
--- 10 Outside, of take and give: the byte at the pointer of a moving link
+-- 10 Outside, of take and give: the byte at the pointer of a moving link (01, Answers by number; DECISIONS 32)
 abbrev pub pointerOutside : ℕ → List ℕ → List ℕ → Bool
 pointerOutside c r mem = isMoving c r && leb (length mem) (index (getD r (pointerReg c) 0))
 
--- 10 Outside and 11 Stop, of step: what it does where it is not halted, (a), (b) or (c), makes its accesses in 000's order; the first one outside
--- memory makes its answer 10, the first Stop 11, and nothing is accessed after it (crates/rules/specs/Work.antt)
+-- what a step that is not halted answers: (a), (b) or (c) makes its accesses in 000's order; the first one outside memory makes it
+-- 10, the first Stop 11, and nothing is accessed after it (01, Answers by number; DECISIONS 25, 44)
 abbrev pub ownAnswer : List ℕ → List ℕ → ℕ
 ownAnswer r mem = steps.choose mem (begin r) .answer
 
+-- 10 Outside, of step: fetch, load or store outside memory (01, Answers by number; DECISIONS 25)
 abbrev pub stepOutside : List ℕ → List ℕ → Bool
 stepOutside r mem = eqb (ownAnswer r mem) 10
 
+-- 11 Stop: an IF of 000 with no true branch, or a ring in a timer queue (01, Answers by number; DECISIONS 26, 27)
 abbrev pub stepStops : List ℕ → List ℕ → Bool
 stepStops r mem = eqb (ownAnswer r mem) 11
 
--- 12 JournalFull: the record of the worked-out call does not fit after used
+-- 12 JournalFull: the record of the worked-out call does not fit after used (01, Answers by number)
 abbrev pub full : Machine → List ℕ → List ℕ → Work → Bool
 full m mem j w = ltb (length j) (m .used + recordLength (length (touched (length mem) (w .stored))))
 
 -- ---- each call's numbers with their conditions, in the table's order
 
+-- fresh: 1 Size, 2 CodeSize (01, Answers by number)
 abbrev pub freshNumbers : List ℕ → List ℕ → List ℕ → List (ℕ × Bool)
 freshNumbers code mem j = (1, sizeBad mem j) ∷ (2, codeBad (length mem) (length code)) ∷ []
 
 module _ (m : Machine) (mem j : List ℕ) where
-  -- clear can meet only 1
+  -- clear can meet only 1 (01, Answers by number)
   abbrev pub clearNumbers : List (ℕ × Bool)
   clearNumbers = (1, sizeBad mem j) ∷ []
 
+  -- tick: 1, 4, 12 (01, Answers by number; DECISIONS 37)
   abbrev pub tickNumbers : List (ℕ × Bool)
   tickNumbers = (1, sizeBad mem j) ∷ (4, frame m j) ∷ (12, full m mem j (links.tick (begin (m .regs)))) ∷ []
 
+  -- event: 1, 4, 8, 12 (01, Answers by number; DECISIONS 37)
   abbrev pub eventNumbers : List (ℕ × Bool)
   eventNumbers =
       (1, sizeBad mem j)
@@ -126,6 +138,7 @@ module _ (m : Machine) (mem j : List ℕ) where
       ∷ (12, full m mem j (links.event (begin (m .regs))))
       ∷ []
 
+  -- undo: 1, 4 by depth and used, 5, then 4 by the last record (01, Answers by number; DECISIONS 35)
   abbrev pub undoNumbers : List (ℕ × Bool)
   undoNumbers =
       (1, sizeBad mem j)
@@ -135,6 +148,7 @@ module _ (m : Machine) (mem j : List ℕ) where
       ∷ (4, pairOutside m mem j)
       ∷ []
 
+  -- step: 1, 4, 6, 7, 9, 10, 11, 12; of 10 and 11 the first in 000's order (01, Answers by number; DECISIONS 25)
   abbrev pub stepNumbers : List (ℕ × Bool)
   stepNumbers =
       (1, sizeBad mem j)
@@ -147,6 +161,7 @@ module _ (m : Machine) (mem j : List ℕ) where
       ∷ (12, full m mem j (steps.step mem (begin (m .regs))))
       ∷ []
 
+-- take: 1, 3, 4, 8, 10, 12 (01, Answers by number; DECISIONS 32)
 abbrev pub takeNumbers : ℕ → Machine → List ℕ → List ℕ → List (ℕ × Bool)
 takeNumbers c m mem j =
     (1, sizeBad mem j)
@@ -157,6 +172,7 @@ takeNumbers c m mem j =
     ∷ (12, full m mem j (links.take mem c (begin (m .regs))))
     ∷ []
 
+-- give: 1, 3, 4, 8, 10, 12 (01, Answers by number; DECISIONS 32)
 abbrev pub giveNumbers : ℕ → ℕ → Machine → List ℕ → List ℕ → List (ℕ × Bool)
 giveNumbers c byte m mem j =
     (1, sizeBad mem j)

@@ -22,6 +22,7 @@ use Rattle.rules.specs.declared.Answer.the-variants.{Done, Size, CodeSiz
 
 -- ---- answers: 01's number of each; 0 is accepted
 
+-- 01's number of each answer; 0 is accepted (01, Answers by number; DECISIONS 45)
 unfoldable pub numberOf : Answer → ℕ
 numberOf Done = 0
 numberOf Size = 1
@@ -37,29 +38,35 @@ numberOf Outside = 10
 numberOf Stop = 11
 numberOf JournalFull = 12
 
--- what a call comes to
+-- what a call comes to: all that a contract determines (01, What the contracts have to say)
 pub record Outcome : Type 0 where
+  -- the number of the refusal, 0 where the call is accepted (01, Answers by number)
   pub answer : ℕ
+  -- the byte of an accepted take, else 0 (01, Answers by number; DECISIONS 45)
   pub byte : ℕ
+  -- registers, depth and used afterwards (01, Language forms and where they go)
   pub machine : Machine
+  -- the lent words of memory afterwards (01, Memory and registers)
   pub memory : List ℕ
+  -- the lent words of the journal afterwards (01, The journal)
   pub journal : List ℕ
 
--- what the code of a call hands back: its reply, and the lent words as they then are
+-- what the code of a call hands back: its reply, and the lent words as they then are (DECISIONS 45)
 abbrev pub outcomeOf : Reply → List ℕ → List ℕ → Outcome
 outcomeOf r mem j =
     record { answer = numberOf (r .answer); byte = r .byte; machine = r .machine; memory = mem; journal = j }
 
--- a refusal alters nothing
+-- a refusal alters nothing, and its byte is 0 (01, Answers by number)
 abbrev pub refused : ℕ → Machine → List ℕ → List ℕ → Outcome
 refused n m mem j = record { answer = n; byte = 0; machine = m; memory = mem; journal = j }
 
--- a machine from its parts
+-- a machine from its registers, depth and used (01, Language forms and where they go)
 abbrev pub machineOf : List ℕ → ℕ → ℕ → Machine
 machineOf regs depth used = record { regs = regs; depth = depth; used = used }
 
 -- ---- Size: two predicates, memory and journal
 
+-- 1 Size: N is not 64 to 16,384 (01, Answers by number)
 unfoldable pub memoryBad : ℕ → Bool
 memoryBad n = ltb n 64 || ltb 16384 n
 
@@ -73,7 +80,7 @@ sizeBad mem j = memoryBad (length mem) || journalBad (length j)
 
 -- ---- step, tick, take, give, event
 
--- an accepted call, if its record fits after used
+-- an accepted call with its record (01, The journal); 12 JournalFull where that does not fit after used (01, Answers by number)
 unfoldable pub recorded : Machine → List ℕ → List ℕ → ℕ → List ℕ → List ℕ → List ℕ → Outcome
 recorded m mem j byte regs ks after =
     ifLt (length j) (m .used + recordLength (length ks)) (refused 12 m mem j)
@@ -85,21 +92,21 @@ recorded m mem j byte regs ks after =
       journal = sets j (m .used) (recordOf mem (m .regs) ks);
     })
 
--- what worked-out work comes to
+-- what worked-out work comes to: its refusal, or the accepted call, which only 12 can still refuse (DECISIONS 25, 44)
 unfoldable pub settled : Machine → List ℕ → List ℕ → ℕ → Work → Outcome
 settled m mem j byte w =
     ifEq (w .answer) 0
     (recorded m mem j byte (w .regs) (touched (length mem) (w .stored)) (stores mem (w .stored)))
     (refused (w .answer) m mem j)
 
--- the checks before a call's own: Size, BadChannel, JournalBad
+-- the checks before a call's own, in the order of the table: 1 Size, 3 BadChannel, 4 JournalBad (01, Answers by number)
 unfoldable pub checked : Bool → Machine → List ℕ → List ℕ → Outcome → Outcome
 checked badChannel m mem j o =
     pick (sizeBad mem j) (refused 1 m mem j)
     (pick badChannel (refused 3 m mem j)
     (pick (frameBad (length j) (m .depth) (m .used)) (refused 4 m mem j) o))
 
--- an output link, an input link
+-- 3 BadChannel: take outside 0 to 3 (01, Answers by number)
 unfoldable pub notOutput : ℕ → Bool
 notOutput c = leb 4 c
 
@@ -131,6 +138,7 @@ event m mem j = checked false m mem j (settled m mem j 0 (links.event (begin (m 
 
 -- ---- undo (01, The journal)
 
+-- the last record's pairs and registers brought back (01, The journal); 4 where a pair's index is N or more (01, Answers by number)
 unfoldable pub undone : Machine → List ℕ → List ℕ → List (ℕ × ℕ) → Outcome
 undone m mem j pairs =
     pick (strays (length mem) pairs) (refused 4 m mem j)
@@ -154,6 +162,7 @@ undo m mem j = checked false m mem j (ifEq (m .depth) 0 (refused 5 m mem j) (und
 
 -- ---- clear: empties the journal, nothing else changes
 
+-- clear: depth and used become 0, nothing else changes (01, The part of the T414 that we build)
 unfoldable pub clear : Machine → List ℕ → List ℕ → Outcome
 clear m mem j =
     pick (sizeBad mem j) (refused 1 m mem j)
@@ -161,25 +170,25 @@ clear m mem j =
 
 -- ---- fresh (01, Memory and registers)
 
--- words that n bytes of code take
+-- words that n bytes of code take: Wptr is the first word boundary at or after its end (01, Memory and registers)
 abbrev pub codeWords : ℕ → ℕ
 codeWords n = (n + 3) / 4
 
--- word k of the code, 0 past its end; byte 0 is the least significant
+-- word k of the code, 0 past its end; byte 0 is the least significant (01, Memory and registers)
 unfoldable pub codeWord : List ℕ → ℕ → ℕ
 codeWord code k =
     getD code (4 * k) 0 + 256 * getD code (4 * k + 1) 0 + 65536 * getD code (4 * k + 2) 0 + 16777216 * getD code (4 * k + 3) 0
 
--- word i of a fresh memory
+-- word i of a fresh memory: NotProcess.p in words 0 to 11, the code at MemStart, else 0 (01, Memory and registers)
 unfoldable pub freshWord : List ℕ → ℕ → ℕ
 freshWord code i = ifLt i 12 notProcess (ifLt i memStartWord 0 (codeWord code (i - memStartWord)))
 
--- the n words from i on
+-- the n words of a fresh memory from i on (01, Memory and registers)
 unfoldable pub freshMemory : List ℕ → ℕ → ℕ → List ℕ
 freshMemory code i zero = []
 freshMemory code i (suc n) = freshWord code i ∷ freshMemory code (i + 1) n
 
--- Wptr is the first word boundary at or after the end of the code, priority low
+-- the registers of fresh with n bytes of code: Iptr, Wptr at low priority, both queue fronts, else 0 (01, Memory and registers)
 unfoldable pub freshRegs : ℕ → List ℕ
 freshRegs n =
     set
@@ -190,7 +199,7 @@ freshRegs n =
     (fptrReg 1)
     notProcess
 
--- CodeSize: no code, or no whole word left after it
+-- 2 CodeSize: no code, or no whole word left after it (01, Answers by number)
 unfoldable pub codeBad : ℕ → ℕ → Bool
 codeBad size n = eqb n 0 || leb size (memStartWord + codeWords n)
 

@@ -14,7 +14,7 @@ use Rattle.rules.specs.Links.{eventMeets, receive}
 
 -- ---- requests
 
--- of the n channels from c on, the lowest with a run or a ready request; 9 where there is none
+-- of the n channels from c on, the lowest with a run or a ready request; 9 where there is none (01, One step (a))
 unfoldable pub requestFrom : ℕ → ℕ → Work → ℕ
 requestFrom c zero w = linkChans
 requestFrom c (suc n) w =
@@ -29,13 +29,14 @@ unfoldable pub startTransfer : ℕ → Work → Work
 startTransfer c w =
     raise (channelReg c) activeBit (put (countReg c) (reg areg w) (put (pointerReg c) (reg creg w) w))
 
--- the registers for a message to or from the partner's pointer (000 1.10, Input and Output)
+-- Breg := Creg; Creg := sourcePtr (000 1.10, Input; DECISIONS 14)
 unfoldable pub inputRegs : ℕ → Work → Work
 inputRegs sourcePtr w = put creg sourcePtr (put breg (reg creg w) w)
 
 module _ (m : List ℕ) where
   -- ---- PROC HandleChannelRequest
 
+  -- the IF on channelContent; NotProcess.p only clears the request (000 1.8, HandleChannelRequest; DECISIONS 34)
   unfoldable pub runContent : ℕ → ℕ → Work → Work
   runContent hc content w =
       ifEq content notProcess w (run m content (wIndexWord m portBase hc notProcess w))
@@ -72,7 +73,7 @@ module _ (m : List ℕ) where
 
   -- ---- hard channels
 
-  -- PROC HardChannelInputOutputAction: the transfer is started
+  -- PROC HardChannelInputOutputAction: the transfer is started (000 1.10; 01, Links, clocks, slice)
   unfoldable pub hardStart : ℕ → Work → Work
   hardStart c w = startTransfer c (saveIptr m (wIndexWord m (reg breg w) 0 (reg wdescReg w) w))
 
@@ -80,7 +81,7 @@ module _ (m : List ℕ) where
   unfoldable pub hardOutput : ℕ → Work → Work
   hardOutput c w = ifEq (reg areg w) 0 w (gotoSNP (hardStart c w))
 
-  -- what a give or an event would do with what is held
+  -- what a give or an event would do with what is held (01, Links, clocks, slice; DECISIONS 29)
   unfoldable pub meetHeld : ℕ → Work → Work
   meetHeld c w = ifEq c eventChannel (eventMeets w) (receive m c (heldByte (reg (channelReg c) w)) w)
 
@@ -100,7 +101,7 @@ module _ (m : List ℕ) where
 
   -- ---- soft channels
 
-  -- PROC SaveRegsPendingSoftIO
+  -- PROC SaveRegsPendingSoftIO (000 1.10)
   unfoldable pub saveRegsPendingSoftIO : Work → Work
   saveRegsPendingSoftIO w =
       wIndexWord m (wptr w) pointerS (reg creg w) (saveIptr m (wIndexWord m (reg breg w) 0 (reg wdescReg w) w))
@@ -114,7 +115,7 @@ module _ (m : List ℕ) where
   moveMessage procDesc w =
       run m procDesc (moveDone (reg areg w) (transfer m (reg creg w) (reg breg w) (reg areg w) w))
 
-  -- PROC Input
+  -- ready, after the channel is reset: sourcePtr is read at the partner's Pointer.s (000 1.10, Input; DECISIONS 51)
   unfoldable pub inputReady : ℕ → Work → Work
   inputReady procDesc w =
       moveMessage procDesc
@@ -131,12 +132,12 @@ module _ (m : List ℕ) where
       ifLt (index (reg breg w)) linkChans (hardInput (index (reg breg w)) w)
       (softInput (wordAt m (atWord (reg breg w) 0) w) (loadWord m (atWord (reg breg w) 0) w))
 
-  -- PROC Output
+  -- destPtr is a valid pointer: the channel is reset, the message moved (000 1.10, Output; DECISIONS 14)
   unfoldable pub outputMessage : ℕ → ℕ → Work → Work
   outputMessage procDesc destPtr w =
       moveMessage procDesc (put breg destPtr (wIndexWord m (reg breg w) 0 notProcess w))
 
-  -- the scheduler's interlock for ALT
+  -- destPtr = Enabling.p: the scheduler's interlock for ALT (000 1.10, Output)
   unfoldable pub outputEnabling : ℕ → Work → Work
   outputEnabling procDesc w = softWait (wIndexWord m (wptrOf procDesc) pointerS ready w)
 
@@ -191,11 +192,11 @@ module _ (m : List ℕ) where
       put areg (wordAt m (atWord (reg areg w) 0) w)
       (resetHard (index (reg areg w)) (wIndexWord m (reg areg w) 0 notProcess (loadWord m (atWord (reg areg w) 0) w)))
 
-  -- alt start
+  -- alt start (000 1.11)
   unfoldable pub alt : Work → Work
   alt w = wIndexWord m (wptr w) stateS enabling w
 
-  -- alt wait
+  -- the IF on Areg (000 1.11, alt wait)
   unfoldable pub altwtState : Work → Work
   altwtState w = ifEq (reg areg w) ready w (wait m w)
 
@@ -203,15 +204,15 @@ module _ (m : List ℕ) where
   unfoldable pub altwt : Work → Work
   altwt w = altwtState (rIndexWord m (wptr w) stateS areg (wIndexWord m (wptr w) 0 noneSelected w))
 
-  -- State.s := Ready.p
+  -- WIndexWord (Wptr, State.s, Ready.p) (000 1.11, enable skip and enable channel)
   unfoldable pub stateReady : Work → Work
   stateReady w = wIndexWord m (wptr w) stateS ready w
 
-  -- enable skip
+  -- enable skip (000 1.11)
   unfoldable pub enbs : Work → Work
   enbs w = ifEq (reg areg w) 0 w (stateReady w)
 
-  -- disable skip
+  -- the IF on Breg (000 1.11, disable skip)
   unfoldable pub dissGuard : Work → Work
   dissGuard w = ifEq (reg breg w) 0 (put areg 0 w) (isThisSelectedProcess m w)
 
@@ -219,7 +220,7 @@ module _ (m : List ℕ) where
   unfoldable pub diss : Work → Work
   diss w = dropB (dissGuard w)
 
-  -- enable channel
+  -- WIndexWord (Breg, 0, WdescReg) (000 1.11, enable channel)
   unfoldable pub claimChannel : Work → Work
   claimChannel w = wIndexWord m (reg breg w) 0 (reg wdescReg w) w
 
@@ -247,21 +248,21 @@ module _ (m : List ℕ) where
   unfoldable pub enbc : Work → Work
   enbc w = dropB (enbcGuard w)
 
-  -- disable channel: on a soft one Breg is left with the channel word (DECISIONS 11)
+  -- Breg = WdescReg: WIndexWord (Creg, 0, NotProcess.p); Areg := MachineFALSE (000 1.11, disable channel)
   unfoldable pub disclaim : Work → Work
   disclaim w = put areg 0 (wIndexWord m (reg creg w) 0 notProcess w)
 
-  -- an internal channel (000 1.11, disable channel)
+  -- an internal channel (000 1.11, disable channel); Breg is left with the channel word (DECISIONS 11)
   unfoldable pub discSoft : Work → Work
   discSoft w =
       ifEq (reg breg w) notProcess (put areg 0 w)
       (ifEq (reg breg w) (reg wdescReg w) (disclaim w) (isThisSelectedProcess m w))
 
-  -- ready exactly when a byte is held; enabled and the ready request are cleared, after the store (DECISIONS 30)
+  -- ready exactly when a byte is held (01, Links, clocks, slice; DECISIONS 30)
   unfoldable pub discAnswer : ℕ → Work → Work
   discAnswer c w = ifSet heldBit (reg (channelReg c) w) (isThisSelectedProcess m w) (put areg 0 w)
 
-  -- a hard channel (000 1.11, disable channel; DECISIONS 30)
+  -- a hard channel: enabled and the ready request are cleared, after the store (000 1.11, disable channel; DECISIONS 30)
   unfoldable pub discHard : ℕ → Work → Work
   discHard c w =
       discAnswer c (lower (channelReg c) (enabledBit + readyRequest) (wIndexWord m (reg creg w) 0 notProcess w))

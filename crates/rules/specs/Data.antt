@@ -6,15 +6,15 @@ use Rattle.rules.specs.Words.{minus, atByte, atWord}
 use Rattle.rules.specs.Registers.{iptrReg, wdescReg, areg, breg, creg, oreg, fptrReg, bptrReg}
 use Rattle.rules.specs.Work.{Work, reg, put, wptr, priority, wordAt, loadWord, storeByte, rIndexWord, rIndexByte, wIndexWord, transfer}
 
--- Creg := Breg; Breg := Areg
+-- Creg := Breg; Breg := Areg (000 1.11, load local)
 unfoldable pub pushed : Work → Work
 pushed w = put breg (reg areg w) (put creg (reg breg w) w)
 
--- Areg := Breg; Breg := Creg
+-- Areg := Breg; Breg := Creg (000 1.11, store local)
 unfoldable pub popped : Work → Work
 popped w = put breg (reg creg w) (put areg (reg breg w) w)
 
--- UpdateWdescReg (temp BITOR Priority), the workspace n words on
+-- AtWord (Wptr, n, temp); UpdateWdescReg (temp BITOR Priority) (000 1.11, call and return; DECISIONS 12)
 unfoldable pub adjusted : ℕ → Work → Work
 adjusted n w = put wdescReg (bitOr (atWord (wptr w) n) (priority w)) w
 
@@ -22,24 +22,24 @@ adjusted n w = put wdescReg (bitOr (atWord (wptr w) n) (priority w)) w
 unfoldable pub moveDone : ℕ → Work → Work
 moveDone n w = put areg 0 (put breg (atByte (reg breg w) n) (put creg (atByte (reg creg w) n) w))
 
--- AtByte (IptrReg, n, IptrReg)
+-- AtByte (IptrReg, n, IptrReg) (000 1.11, call and alt end)
 unfoldable pub jumpBy : ℕ → Work → Work
 jumpBy n w = put iptrReg (atByte (reg iptrReg w) n) w
 
--- the end of call
+-- the end of call, from Areg := IptrReg on (000 1.11, call)
 unfoldable pub entered : Work → Work
 entered w = jumpBy (reg oreg w) (adjusted (minus 4) (put areg (reg iptrReg w) w))
 
 module _ (m : List ℕ) where
-  -- load local
+  -- load local (000 1.11)
   unfoldable pub ldl : Work → Work
   ldl w = rIndexWord m (wptr w) (reg oreg w) areg (pushed w)
 
-  -- store local
+  -- store local (000 1.11)
   unfoldable pub stl : Work → Work
   stl w = popped (wIndexWord m (wptr w) (reg oreg w) (reg areg w) w)
 
-  -- load non-local
+  -- load non-local (000 1.11)
   unfoldable pub ldnl : Work → Work
   ldnl w = rIndexWord m (reg areg w) (reg oreg w) areg w
 
@@ -47,7 +47,7 @@ module _ (m : List ℕ) where
   unfoldable pub stnl : Work → Work
   stnl w = put areg (reg creg w) (wIndexWord m (reg areg w) (reg oreg w) (reg breg w) w)
 
-  -- call
+  -- the four stores of call (000 1.11, call)
   unfoldable pub callFrame : Work → Work
   callFrame w =
       wIndexWord m (wptr w) (minus 4) (reg iptrReg w)
@@ -58,11 +58,11 @@ module _ (m : List ℕ) where
   unfoldable pub call : Work → Work
   call w = entered (callFrame w)
 
-  -- return
+  -- return (000 1.11)
   unfoldable pub ret : Work → Work
   ret w = adjusted 4 (rIndexWord m (wptr w) 0 iptrReg w)
 
-  -- load byte
+  -- load byte (000 1.11)
   unfoldable pub lb : Work → Work
   lb w = rIndexByte m (reg areg w) areg w
 
@@ -74,7 +74,7 @@ module _ (m : List ℕ) where
   unfoldable pub blockMove : Work → Work
   blockMove w = moveDone (reg areg w) (transfer m (reg creg w) (reg breg w) (reg areg w) w)
 
-  -- save high priority queue registers, save low priority queue registers: those of a level
+  -- save high priority queue registers, save low priority queue registers: those of a level (000 1.11)
   unfoldable pub saveQueue : ℕ → Work → Work
   saveQueue level w =
       popped
@@ -89,6 +89,6 @@ module _ (m : List ℕ) where
   abbrev pub savel : Work → Work
   savel w = saveQueue 1 w
 
-  -- alt end
+  -- alt end (000 1.11)
   unfoldable pub altend : Work → Work
   altend w = jumpBy (wordAt m (atWord (wptr w) 0) w) (loadWord m (atWord (wptr w) 0) w)

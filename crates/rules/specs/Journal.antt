@@ -7,11 +7,11 @@ use lib.ListN.{length, getD, take, drop, set}
 use Rattle.rules.specs.Tests.{pick}
 use Rattle.rules.specs.Registers.{registers}
 
--- how many words a record of n pairs takes: 46 and two for each
+-- how many words a record of n pairs takes: 46 and two for each (01, The journal)
 abbrev pub recordLength : ℕ → ℕ
 recordLength pairs = registers + 1 + 2 * pairs
 
--- the last word of a record, and the number of pairs that it tells
+-- the last word of a record of n pairs: their number (01, The journal)
 abbrev pub lastWord : ℕ → ℕ
 lastWord pairs = pairs
 
@@ -19,21 +19,22 @@ lastWord pairs = pairs
 abbrev pub pairsTold : ℕ → ℕ
 pairsTold last = last
 
--- each index with what the memory holds there
+-- each index with what the memory holds there, one pair after the other (01, The journal)
 unfoldable pub olds : List ℕ → List ℕ → List ℕ
 olds m [] = []
 olds m (i ∷ is) = i ∷ getD m i 0 ∷ olds m is
 
--- the record of a call that touched the words ks, with memory and registers as before it
+-- the record of a call that touched the words ks, with memory and registers as before it (01, The journal; DECISIONS 38)
 unfoldable pub recordOf : List ℕ → List ℕ → List ℕ → List ℕ
 recordOf m regs ks = olds m ks ++ (regs ++ (lastWord (length ks) ∷ []))
 
--- used above the journal's length, or the records of depth calls longer than used
+-- 4 JournalBad: used above the journal's length, or 46 x depth above used (01, Answers by number; DECISIONS 35)
 unfoldable pub frameBad : ℕ → ℕ → ℕ → Bool
 frameBad size depth used = ltb size used || ltb used (recordLength 0 * depth)
 
 -- ---- the last record, which ends at used
 
+-- its number of pairs, told by the word before used (01, The journal)
 unfoldable pub lastPairs : List ℕ → ℕ → ℕ
 lastPairs j used = pairsTold (getD j (used - 1) 0)
 
@@ -45,17 +46,17 @@ lastStart j used = used - recordLength (lastPairs j used)
 unfoldable pub lastRegs : List ℕ → ℕ → List ℕ
 lastRegs j used = take registers (drop (used - recordLength 0) j)
 
--- n pairs of index and old value, from a place on
+-- n pairs of index and old value, from a place on (01, The journal)
 unfoldable pub pairsAt : List ℕ → ℕ → ℕ → List (ℕ × ℕ)
 pairsAt j at zero = []
 pairsAt j at (suc n) = (getD j at 0, getD j (at + 1) 0) ∷ pairsAt j (at + 2) n
 
--- written back from first to last
+-- pairs written back from first to last (01, The journal; DECISIONS 36)
 unfoldable pub writeBack : List ℕ → List (ℕ × ℕ) → List ℕ
 writeBack m [] = m
 writeBack m (p ∷ ps) = writeBack (set m (p .0) (p .1)) ps
 
--- a pair's index is not below size
+-- 4 JournalBad: a pair's index is N or more (01, Answers by number)
 unfoldable pub strays : ℕ → List (ℕ × ℕ) → Bool
 strays size [] = false
 strays size (p ∷ ps) = pick (ltb (p .0) size) (strays size ps) true

@@ -1,4 +1,5 @@
--- Links and the event channel, the clocks (01, Links, clocks, slice): what take, give, event and tick do, and what an `in` that finds something held does.
+-- Links and the event channel, the clocks (01, Links, clocks, slice): what take, give, event and tick do, and what an `in` that finds
+-- something held does.
 use Prim.Native.Nat.{ℕ, _+_, _-_, _*_, _≤_}
 use mathlib.Core.List.{List}
 use lib.Bits.{bitAnd, bitOr}
@@ -9,11 +10,11 @@ use Rattle.rules.specs.Registers.{clockReg, prescalerReg, sliceReg, flag
 use Rattle.rules.specs.Work.{Work, reg, put, raise, lower, notReady, refuse, byteAt, loadByte, storeByte}
 use Rattle.rules.specs.Scheduling.{sliceLength}
 
--- a link is moving when it is active and its count is not 0
+-- a link is moving when it is active and its count is not 0 (01, Links, clocks, slice)
 abbrev pub ifMoving : {A : Type 0} → ℕ → Work → A → A → A
 ifMoving c w x y = ifSet activeBit (reg (channelReg c) w) (ifEq (reg (countReg c) w) 0 y x) y
 
--- active is cleared and the run request set
+-- active is cleared and the run request set (01, Links, clocks, slice)
 unfoldable pub transferEnds : ℕ → Work → Work
 transferEnds c w = raise (channelReg c) runRequest (lower (channelReg c) activeBit w)
 
@@ -21,14 +22,14 @@ transferEnds c w = raise (channelReg c) runRequest (lower (channelReg c) activeB
 unfoldable pub endAtZero : ℕ → Work → Work
 endAtZero c w = ifEq (reg (countReg c) w) 0 (transferEnds c w) w
 
--- pointer grows by one, count falls by one, and at 0 the transfer ends
+-- pointer grows by one, count falls by one, and at 0 the transfer ends (01, Links, clocks, slice)
 unfoldable pub advance : ℕ → Work → Work
 advance c w =
     endAtZero c
     (put (countReg c) (atByte (reg (countReg c) w) (minus 1))
     (put (pointerReg c) (atByte (reg (pointerReg c) w) 1) w))
 
--- a link that is not moving holds a byte; enabled becomes the ready request
+-- if enabled was set it is cleared and the ready request set (01, Links, clocks, slice)
 unfoldable pub noticeHeld : ℕ → Work → Work
 noticeHeld c w =
     ifSet enabledBit (reg (channelReg c) w)
@@ -40,11 +41,11 @@ unfoldable pub hold : ℕ → ℕ → Work → Work
 hold c byte w =
     noticeHeld c (put (channelReg c) (setBits heldBit (withHeldByte byte (reg (channelReg c) w))) w)
 
--- the event channel moves no data: one event meets a transfer of any count above 0
+-- one event meets a transfer of any count above 0: count 0, the transfer ends, the pointer stays (01, Links, clocks, slice)
 unfoldable pub eventMeets : Work → Work
 eventMeets w = transferEnds eventChannel (put (countReg eventChannel) 0 w)
 
--- with no transfer moving, held is set and the byte bits stay
+-- with no transfer moving, held is set and the byte bits stay (01, Links, clocks, slice)
 unfoldable pub eventHolds : Work → Work
 eventHolds w = noticeHeld eventChannel (raise (channelReg eventChannel) heldBit w)
 
@@ -56,6 +57,7 @@ event w =
 
 -- ---- tick
 
+-- slice, if below 1,024, grows by one, else it stays (01, Links, clocks, slice)
 unfoldable pub tickSlice : Work → Work
 tickSlice w = ifLt (reg sliceReg w) sliceLength (put sliceReg (reg sliceReg w + 1) w) w
 
@@ -75,7 +77,7 @@ unfoldable pub tick : Work → Work
 tick w = ifSet clocksRun (reg flagsReg w) (tickClocks w) w
 
 module _ (m : List ℕ) where
-  -- take: the byte at the pointer
+  -- take: the byte at the pointer (01, Links, clocks, slice)
   unfoldable pub taken : ℕ → Work → ℕ
   taken c w = byteAt m (reg (pointerReg c) w) w
 
@@ -87,7 +89,7 @@ module _ (m : List ℕ) where
   unfoldable pub take : ℕ → Work → Work
   take c w = ifMoving c w (takeByte c w) (refuse notReady w)
 
-  -- a byte is stored at the pointer
+  -- give: the byte is stored at the pointer (01, Links, clocks, slice)
   unfoldable pub receive : ℕ → ℕ → Work → Work
   receive c byte w = advance c (storeByte m (reg (pointerReg c) w) byte w)
 

@@ -1,4 +1,5 @@
--- The sixteen functions and the built operations (000 1.11; 01, The part of the T414 that we build; DECISIONS 1). The built list is these tables and nothing else.
+-- The sixteen functions and the built operations (000 1.11; 01, The part of the T414 that we build; DECISIONS 1). The built list is these
+-- tables and nothing else.
 use Prim.Native.Nat.{ℕ}
 use mathlib.Core.List.{List, [], _∷_}
 use Rattle.rules.specs.Tests.{look}
@@ -14,11 +15,11 @@ use Rattle.rules.specs.declared.Attempt.{Attempt}
 use Rattle.rules.specs.declared.System.{System}
 use Rattle.rules.specs.declared.Both.{Both}
 
--- what an instruction does, of the memory before the call
+-- what an instruction does, of the memory before the call, to the call's work (DECISIONS 44)
 abbrev pub Action : Type 0
 Action = List ℕ → Work → Work
 
--- on the evaluation stack alone
+-- an instruction that works on registers 0 to 6 alone (000 1.11)
 abbrev pub pure : (Core → Core) → Action
 pure f m w = onCore f w
 
@@ -26,7 +27,7 @@ pure f m w = onCore f w
 abbrev pub pureOrStop : (Core → Attempt) → Action
 pureOrStop f m w = onAttempt f w
 
--- the same for operations on queue pointers and clocks
+-- the same for operations on queue pointers and clocks (000 1.11, Booting and analysing)
 abbrev pub pureBoth : (Core → System → Both) → Action
 pureBoth f m w = onBoth f w
 
@@ -120,19 +121,19 @@ operations =
     ∷ (0x59, pure stack.testhalterr)
     ∷ []
 
--- an operation outside the built list
+-- 9 Unlisted: an operation outside the built list (01, Answers by number; DECISIONS 25)
 abbrev pub unlistedAction : Action
 unlistedAction m w = refuse unlisted w
 
--- operate: the operation is the whole Oreg (DECISIONS 1)
+-- the operation with a code; one outside the built list is 9 Unlisted (01, Answers by number; DECISIONS 1)
 unfoldable pub operate : ℕ → Action
 operate code m w = look operations code unlistedAction m w
 
--- operate (000 1.11)
+-- operate (000 1.11): the code is the whole Oreg (DECISIONS 1)
 abbrev pub opr : Action
 opr m w = operate (reg oreg w) m w
 
--- the functions but for pfix and nfix, which keep Oreg (Step.antt)
+-- the functions but for pfix and nfix, which keep Oreg (000 1.11, Direct, Prefixing and Indirect Functions; Step.antt)
 unfoldable pub functions : List (ℕ × Action)
 functions =
     (0x0, scheduling.j)

@@ -1,5 +1,5 @@
--- The starred lines of 01, "Numbers at the edges", as one table over whole steps, and one computed test of it. That of two times 2 ^ 31 apart
--- neither is later holds of all times (crate `words`, proofs); two rows of it stand here.
+-- The starred lines of 01, "Numbers at the edges", as one table over whole steps, and one computed test of it. That of two times 2 ^ 31
+-- apart neither is later holds of all times (crate `words`, proofs); two rows of it stand here.
 use mathlib.Core.Path.{_≡_, refl}
 use mathlib.Core.Bool.{Bool, true, false, _&&_}
 use mathlib.Core.List.{List, [], _∷_}
@@ -24,47 +24,49 @@ use Rattle.rules.specs.Calls.{codeWord, freshWord, freshMemory, freshReg
 
 -- ---- a run of steps from fresh, with some words of memory and some registers set first
 
+-- numbers of words or registers, each with its value: the state that a line starts from (01, Numbers at the edges)
 abbrev pub Settings : Type 0
 Settings = List (ℕ × ℕ)
 
--- a list with some of its words set
+-- a list with some of its words set (01, Numbers at the edges)
 unfoldable pub with-settings : List ℕ → Settings → List ℕ
 with-settings l [] = l
 with-settings l (s ∷ ss) = with-settings (set l (s .0) (s .1)) ss
 
--- registers and memory after n steps
+-- registers and memory after n steps, whatever they answer (01, One step)
 unfoldable pub ran : ℕ → List ℕ → List ℕ → List ℕ × List ℕ
 ran zero r m = (r, m)
 ran (suc n) r m = ran n (step m (begin r) .regs) (stores m (step m (begin r) .stored))
 
--- of a memory of 64 words
+-- n steps from fresh, in a memory of 64 words, with some registers and words set first (01, Numbers at the edges)
 unfoldable pub run : List ℕ → Settings → Settings → ℕ → List ℕ × List ℕ
 run code registers words n =
     ran n (with-settings (freshRegs (length code)) registers) (with-settings (freshMemory code 0 64) words)
 
--- some registers, and some words of memory, after a run
+-- some registers after a run (01, Numbers at the edges)
 unfoldable pub registersOf : List ℕ → List ℕ × List ℕ → List ℕ
 registersOf [] s = []
 registersOf (k ∷ ks) s = getD (s .0) k 0 ∷ registersOf ks s
 
 -- ---- the table
 
+-- a line: what the definitions give, and what 01 says (01, Numbers at the edges)
 pub data Row : Type 0 where
   row : List ℕ → List ℕ → Row
 
--- two lists of numbers are equal
+-- two lists of numbers are equal: a line holds (01, Numbers at the edges)
 unfoldable pub same : List ℕ → List ℕ → Bool
 same [] [] = true
 same (x ∷ xs) (y ∷ ys) = eqb x y && same xs ys
 same [] (y ∷ ys) = false
 same (x ∷ xs) [] = false
 
--- every row of a table holds
+-- every row of a table holds (01, What the contracts have to say)
 unfoldable pub every : List Row → Bool
 every [] = true
 every (row l r ∷ rows) = same l r && every rows
 
--- the address of word 40
+-- the address of word 40 (01, Memory and registers)
 abbrev pub word40 : ℕ
 word40 = 0x8000_00A0
 
@@ -99,6 +101,7 @@ starred =
     ∷ row (registersOf (areg ∷ []) (run (0xF1 ∷ []) ((areg, word40) ∷ []) ((40, 0x0A0B_0C0D) ∷ []) 1)) (0x0D ∷ [])
     ∷ []
 
+-- the starred lines proved of the definitions, as a single table (01, What the contracts have to say)
 pub starred-hold : every starred ≡ true
 unfolding starred every same registersOf run ran with-settings freshRegs freshMemory freshWord codeWord ifLt ifLe ifEq step choose channelsFirst timersFirst instructionUnlessIdle instruction decode execute fetched haltOnError haltIfAsked function functions operate operations requested requestFrom timerReady timerDue put raise lower putCore coreOf withCore wordAt byteAt access refuseAt append storeWord rIndexWord rIndexByte wIndexWord stores storing actOnSNP overflowCheck overflows restoreToRange sign positive later csub0 ccnt1 norm leadingZeros lend loopOn loopBack countUp countDown storeCount addToC timeSlice sliceIfRunning lb
 starred-hold = refl

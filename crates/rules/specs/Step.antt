@@ -12,21 +12,21 @@ use Rattle.rules.specs.Timers.{timerReady, handleTimerRequest}
 use Rattle.rules.specs.Channels.{requested, handleChannelRequest}
 use Rattle.rules.specs.Operations.{function}
 
--- a step halts the machine exactly when the error flag was clear before it and is set after it, and HaltOnError is set after it
+-- halted is set where HaltOnError is set after the step (01, One step; DECISIONS 18)
 unfoldable pub haltIfAsked : Work → Work
 haltIfAsked w = ifSet haltOnErrorBit (reg statusReg w) (raise flagsReg haltedFlag w) w
 
--- what the error flag was before the step decides (01, One step; DECISIONS 18)
+-- only where the error flag was clear before the step and is set after it (01, One step; DECISIONS 18)
 unfoldable pub haltOnError : ℕ → Work → Work
 haltOnError before w =
     ifSet errorFlag before w (ifSet errorFlag (reg statusReg w) (haltIfAsked w) w)
 
--- Iptr grows by one, and Oreg takes the nibble in
+-- Iptr grows by one, and Oreg takes the nibble in (01, One step (c); DECISIONS 2)
 unfoldable pub fetched : ℕ → Work → Work
 fetched byte w = put oreg (withNibble byte (reg oreg w)) (put iptrReg (atByte (reg iptrReg w) 1) w)
 
 module _ (m : List ℕ) where
-  -- any function but a prefix: afterwards Oreg is 0, and a set GotoSNP bit is acted on
+  -- any function but a prefix: afterwards Oreg is 0, and a set GotoSNP bit is acted on (01, One step; DECISIONS 17)
   unfoldable pub execute : ℕ → Work → Work
   execute code w = actOnSNP m (put oreg 0 (function code m w))
 
@@ -34,7 +34,7 @@ module _ (m : List ℕ) where
   unfoldable pub decode : ℕ → Work → Work
   decode code w = ifEq code 0x2 (onCore pfix w) (ifEq code 0x6 (onCore nfix w) (execute code w))
 
-  -- (c) one instruction byte is fetched
+  -- (c) one instruction byte is fetched (01, One step)
   unfoldable pub instruction : Work → Work
   instruction w =
       decode (byteAt m (reg iptrReg w) w / 2 ^ 4)
@@ -44,18 +44,18 @@ module _ (m : List ℕ) where
   unfoldable pub instructionUnlessIdle : Work → Work
   instructionUnlessIdle w = ifSet idleFlag (reg flagsReg w) (refuse idle w) (instruction w)
 
-  -- (b) a timer, served by 000
+  -- (b) timer 0, then timer 1, served by 000; else (c) (01, One step)
   unfoldable pub timersFirst : Work → Work
   timersFirst w =
       pick (timerReady 0 w) (actOnSNP m (handleTimerRequest m 0 w))
       (pick (timerReady 1 w) (actOnSNP m (handleTimerRequest m 1 w)) (instructionUnlessIdle w))
 
-  -- (a) the lowest channel with a request
+  -- (a) the lowest channel with a request; else (b) or (c) (01, One step)
   unfoldable pub channelsFirst : Work → Work
   channelsFirst w =
       ifLt (requested w) linkChans (actOnSNP m (handleChannelRequest m (requested w) w)) (timersFirst w)
 
-  -- (a) and (b) only between instructions
+  -- (a) and (b) only where Oreg is 0 (01, One step)
   unfoldable pub choose : Work → Work
   choose w = ifEq (reg oreg w) 0 (channelsFirst w) (instructionUnlessIdle w)
 

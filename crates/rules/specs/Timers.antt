@@ -1,5 +1,5 @@
--- Timer queues (000 1.8, 1.10, 1.11). Insertion and deletion are done in one step (01, One step). A walk passes at most N + 1 pointer values
--- before one comes again, so a budget of N + 2 turns runs out exactly where one does (DECISIONS 27; proved in the crate `laws`).
+-- Timer queues (000 1.8, 1.10, 1.11). Insertion and deletion are done in one step (01, One step). A walk passes at most N + 1 pointer
+-- values before one comes again, so a budget of N + 2 turns runs out exactly where one does (DECISIONS 27; proved in the crate `laws`).
 use Prim.Native.Nat.{ℕ, zero, suc, _+_, _-_, _*_}
 use mathlib.Core.Bool.{Bool, false, not}
 use mathlib.Core.List.{List}
@@ -11,35 +11,35 @@ use Rattle.rules.specs.Registers.{iptrReg, wdescReg, areg, breg, creg, o
 use Rattle.rules.specs.Work.{Work, reg, put, raise, lower, wptr, priority, gotoSNP, stop, refuse, wordAt, loadWord, rIndexWord, wIndexWord}
 use Rattle.rules.specs.Scheduling.{notProcess, enabling, waiting, ready, timeSet, timeNotSet, noneSelected, timerBase, stateS, pointerS, tlinkS, timeS, saveIptr, run, wait}
 
--- a timer is ready by 000 (1.8): enabled, and NOT (TNextReg AFTER ClockReg); timer 1 only for a low process (DECISIONS 16)
+-- a timer is enabled, and NOT (TNextReg AFTER ClockReg) (000 1.8; DECISIONS 16)
 unfoldable pub timerDue : ℕ → Work → Bool
 timerDue queue w =
     ifSet (tEnabled queue) (reg flagsReg w) (not (later (reg (tnextReg queue) w) (reg (clockReg queue) w))) false
 
--- timer 0, then timer 1 (01, One step (b); DECISIONS 16)
+-- a timer is ready by 000; timer 1 only at low priority (01, One step (b); DECISIONS 16)
 unfoldable pub timerReady : ℕ → Work → Bool
 timerReady queue w = ifEq queue 0 (timerDue 0 w) (ifEq (priority w) 0 false (timerDue 1 w))
 
--- Areg := Areg + 1; RestoreToRange (Areg)
+-- Areg := Areg + 1; RestoreToRange (Areg) (000 1.11, timer input and timer alt wait)
 unfoldable pub nextTime : Work → Work
 nextTime w = put areg (atByte (reg areg w) 1) w
 
--- Breg := Creg
+-- Breg := Creg (000 1.11, disable skip, enable channel and enable timer)
 unfoldable pub dropB : Work → Work
 dropB w = put breg (reg creg w) w
 
--- the address of the word TPtrLoc[queue]
+-- the address of the word TPtrLoc[queue] (01, Memory and registers; DECISIONS 40)
 abbrev pub tptrLoc : ℕ → ℕ
 tptrLoc queue = atWord timerBase queue
 
 module _ (m : List ℕ) where
-  -- TNextReg[queue] := the time of a process; TEnabled[queue] := TRUE
+  -- TNextReg[queue] := the time of a process; TEnabled[queue] := TRUE (000 1.8, HandleTimerRequest; 1.10, InsertFinalStep)
   unfoldable pub setNext : ℕ → ℕ → Work → Work
   setNext queue process w = raise flagsReg (tEnabled queue) (rIndexWord m process timeS (tnextReg queue) w)
 
   -- ---- PROC HandleTimerRequest (QueueId)
 
-  -- schedule the process as appropriate
+  -- status = Waiting.p (000 1.8, HandleTimerRequest)
   unfoldable pub timedOut : ℕ → ℕ → Work → Work
   timedOut queue front w = run m (bitOr front queue) (wIndexWord m front pointerS ready w)
 
@@ -53,7 +53,7 @@ module _ (m : List ℕ) where
   timerWake queue front w =
       timerStatus queue front (wordAt m (atWord front pointerS) w) (loadWord m (atWord front pointerS) w)
 
-  -- update queue
+  -- the IF on secondProcess (000 1.8, HandleTimerRequest)
   unfoldable pub timerNext : ℕ → ℕ → Work → Work
   timerNext queue second w = ifEq second notProcess w (setNext queue second w)
 
@@ -78,7 +78,7 @@ module _ (m : List ℕ) where
 
   -- ---- insertion: Areg is the time, Breg previous, Creg subsequent
 
-  -- PROC InsertFinalStep
+  -- the earliest time into TNextReg, then GotoSNPBit (000 1.10, InsertFinalStep)
   unfoldable pub insertNext : Work → Work
   insertNext w = gotoSNP (setNext (priority w) (reg breg w) w)
 
@@ -92,7 +92,7 @@ module _ (m : List ℕ) where
   insertFinalStep previous subsequent w =
       insertNext (rIndexWord m timerBase (priority w) breg (put creg subsequent (insertLink previous subsequent w)))
 
-  -- PROC InsertTest and InsertMiddleStep, until the place is found
+  -- PROC InsertTest and InsertMiddleStep, until the place is found; a budget used up is Stop (000 1.10; DECISIONS 46)
   unfoldable pub insertWalk : ℕ → ℕ → ℕ → Work → Work
   insertWalk zero time previous w = refuse stop w
   insertWalk (suc turns) time previous w =
@@ -104,7 +104,7 @@ module _ (m : List ℕ) where
       (insertFinalStep previous (wordAt m previous w)
       (loadWord m (atWord (wordAt m previous w) timeS) (loadWord m previous w))))
 
-  -- PROC InsertFirstStep
+  -- PROC InsertFirstStep (000 1.10); the budget is N + 2 (DECISIONS 46)
   unfoldable pub insertFirstStep : Work → Work
   insertFirstStep w =
       insertWalk (length m + 2) (reg areg w) (tptrLoc (priority w))
@@ -112,7 +112,7 @@ module _ (m : List ℕ) where
 
   -- ---- deletion: Breg is previous, Creg subsequent
 
-  -- PROC DeleteFinalStep
+  -- the IF on previous (000 1.10, DeleteFinalStep)
   unfoldable pub deleteNext : Work → Work
   deleteNext w = ifEq (reg breg w) notProcess w (setNext (priority w) (reg breg w) w)
 
@@ -127,20 +127,21 @@ module _ (m : List ℕ) where
       deleteNext
       (rIndexWord m timerBase (priority w) breg (deleteLink previous (rIndexWord m (wptr w) tlinkS creg w)))
 
-  -- PROC DeleteTest and DeleteMiddleStep, until the process is found
+  -- PROC DeleteTest and DeleteMiddleStep, until the process is found; a budget used up is Stop (000 1.10; DECISIONS 46)
   unfoldable pub deleteWalk : ℕ → ℕ → Work → Work
   deleteWalk zero previous w = refuse stop w
   deleteWalk (suc turns) previous w =
       ifEq (wordAt m previous w) (wptr w) (deleteFinalStep previous (loadWord m previous w))
       (deleteWalk turns (atWord (wordAt m previous w) tlinkS) (loadWord m previous w))
 
-  -- PROC DeleteFirstStep
+  -- PROC DeleteFirstStep (000 1.10); the budget is N + 2 (DECISIONS 46)
   unfoldable pub deleteFirstStep : Work → Work
   deleteFirstStep w =
       deleteWalk (length m + 2) (tptrLoc (priority w)) (lower flagsReg (tEnabled (priority w)) w)
 
   -- ---- PROC IsThisSelectedProcess
 
+  -- the IF on disableStatus (000 1.10, IsThisSelectedProcess; DECISIONS 11)
   unfoldable pub selectFirst : ℕ → Work → Work
   selectFirst status w = ifEq status noneSelected (put areg 1 (wIndexWord m (wptr w) 0 (reg areg w) w)) (put areg 0 w)
 
@@ -151,15 +152,15 @@ module _ (m : List ℕ) where
 
   -- ---- operations
 
-  -- timer input
+  -- timer input (000 1.11)
   unfoldable pub tin : Work → Work
   tin w = pick (later (reg (clockReg (priority w)) w) (reg areg w)) w (insertFirstStep (nextTime w))
 
-  -- timer alt start
+  -- timer alt start (000 1.11)
   unfoldable pub talt : Work → Work
   talt w = wIndexWord m (wptr w) stateS enabling (wIndexWord m (wptr w) tlinkS timeNotSet w)
 
-  -- timer alt wait: Creg is the state, then Breg the TLink, then Areg the time (DECISIONS 10)
+  -- WIndexWord (Wptr, Time.s, ClockReg[Priority]) (000 1.11, timer alt wait)
   unfoldable pub timeNow : Work → Work
   timeNow w = wIndexWord m (wptr w) timeS (reg (clockReg (priority w)) w) w
 
@@ -181,11 +182,11 @@ module _ (m : List ℕ) where
   taltwtState w =
       ifEq (reg creg w) ready (timeNow w) (taltwtLink (rIndexWord m (wptr w) tlinkS breg w))
 
-  -- timer alt wait (000 1.11)
+  -- timer alt wait (000 1.11): Creg is the state, then Breg the TLink, then Areg the time (DECISIONS 10)
   unfoldable pub taltwt : Work → Work
   taltwt w = taltwtState (rIndexWord m (wptr w) stateS creg (wIndexWord m (wptr w) 0 noneSelected w))
 
-  -- enable timer
+  -- temp = TimeNotSet.p: the first timer guard (000 1.11, enable timer)
   unfoldable pub enbtFirst : Work → Work
   enbtFirst w = wIndexWord m (wptr w) timeS (reg breg w) (wIndexWord m (wptr w) tlinkS timeSet w)
 
@@ -211,7 +212,7 @@ module _ (m : List ℕ) where
   unfoldable pub enbt : Work → Work
   enbt w = dropB (enbtGuard w)
 
-  -- disable timer
+  -- the IF on laterFlag (000 1.11, disable timer)
   unfoldable pub distReady : ℕ → Work → Work
   distReady time w = pick (later time (reg creg w)) (isThisSelectedProcess w) (put areg 0 w)
 
