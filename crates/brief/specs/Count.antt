@@ -7,21 +7,21 @@ use Rattle.rules.specs.Tests.{pick}
 use Rattle.rules.specs.Memory.{Store, word, touched, stores}
 use Rattle.swift.specs.declared.Swift.{Swift}
 
--- the words: none, or the one at i
+-- the words stored to, by their number: none, or the one at i (01, The journal: words touched; DECISIONS 54)
 unfoldable pub listed : ℕ → ℕ → List ℕ
 listed zero i = []
 listed (suc n) i = i ∷ []
 
--- the memory afterwards
+-- the memory after none or one store (01, The journal; DECISIONS 54)
 unfoldable pub made : ℕ → ℕ → ℕ → List ℕ → List ℕ
 made zero i v m = m
 made (suc n) i v m = set m i v
 
--- the stores of a common step
+-- the stores of a common step, at most one (DECISIONS 54)
 abbrev pub storesOf : Swift → List Store
 storesOf t = pick (t .stores) (word (t .index) (t .value) ∷ []) []
 
--- n is the number of words that a common step stores to, of a memory of size words
+-- n is the number of words that a common step stores to, of a memory of size words (01, The journal: words touched; DECISIONS 54)
 pub record Counted (size : ℕ) (t : Swift) (n : ℕ) : Type 0 where
   pub few : n ≤ 1
   pub inside : 0 < n → t .index < size
