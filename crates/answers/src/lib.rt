@@ -1,5 +1,6 @@
 // Numbers of 01 for the programs: those of the answers, and how long a run is.
 use rules::Answer;
+ghost use Prim.Native.Nat.{_≤_};
 ghost use mathlib.Core.Path.{_≡_};
 ghost use Rattle.rules.specs.Calls.{numberOf};
 
@@ -20,6 +21,16 @@ pub fn number_of(a: Answer) -> u32
         Answer::Outside => 10,
         Answer::Stop => 11,
         Answer::JournalFull => 12,
+    }
+}
+
+// Counts an accepted call.
+pub fn one_if_done(a: Answer) -> u64
+    ensures { λ r. ⌜ r ≤ 1 ⌝ }
+{
+    match a {
+        Answer::Done => 1,
+        _ => 0,
     }
 }
 

@@ -7,30 +7,15 @@
 //     the code, up to 4,072 bytes
 // It prints one line: A, B, C (eight hex digits each) and how many steps, ticks and undos were accepted. What is measured is
 // outside the program: docs/PERFORMANCE.md.
-mod input;
-
-use input::Scenario;
+use cases::scenario::Scenario;
 use rules::Answer;
 use rules::Machine;
 use rules::Reply;
-
-const WORDS: usize = 16384;
-
-const JOURNAL: usize = 65536;
-
-const INPUT: usize = 4096;
 
 // The machine, and the accepted calls that led to it.
 struct Run {
     machine: Machine,
     accepted: u64,
-}
-
-fn one_if_done(answer: Answer) -> u64 {
-    match answer {
-        Answer::Done => 1,
-        _ => 0,
-    }
 }
 
 // What a loop of calls starts from. The loops keep the reply, not the machine, since that is one copy less for each call.
@@ -51,7 +36,7 @@ fn steps(r: Run, n: u32, mem: &mut [u32], journal: &mut [u32]) -> Run {
     while left > 0 {
         reply = t414::step(reply.machine, mem, journal);
         let answer = reply.answer;
-        accepted = std::num::wrapping_add_u64(accepted, one_if_done(answer));
+        accepted = std::num::wrapping_add_u64(accepted, answers::one_if_done(answer));
         left -= 1;
     }
     let machine = reply.machine;
@@ -65,7 +50,7 @@ fn ticks(r: Run, n: u32, mem: &mut [u32], journal: &mut [u32]) -> Run {
     while left > 0 {
         reply = t414::tick(reply.machine, mem, journal);
         let answer = reply.answer;
-        accepted = std::num::wrapping_add_u64(accepted, one_if_done(answer));
+        accepted = std::num::wrapping_add_u64(accepted, answers::one_if_done(answer));
         left -= 1;
     }
     let machine = reply.machine;
@@ -79,7 +64,7 @@ fn undos(r: Run, n: u32, mem: &mut [u32], journal: &mut [u32]) -> Run {
     while left > 0 {
         reply = t414::undo(reply.machine, mem, journal);
         let answer = reply.answer;
-        accepted = std::num::wrapping_add_u64(accepted, one_if_done(answer));
+        accepted = std::num::wrapping_add_u64(accepted, answers::one_if_done(answer));
         left -= 1;
     }
     let machine = reply.machine;
@@ -124,7 +109,7 @@ fn all(s: Scenario, code: &[u8], mem: &mut [u32], journal: &mut [u32]) -> Run {
         machine,
         accepted: 0,
     };
-    if one_if_done(answer) == 0 {
+    if answers::one_if_done(answer) == 0 {
         return run;
     }
     rounds(run, s, mem, journal)
@@ -146,23 +131,20 @@ fn print_run(r: Run) {
 
 // The scenario at the start of given.
 fn bench(given: &[u8]) {
-    if given.len() < input::HEAD {
-        io::write_all(2, b"t414_bench: six numbers are wanted\n");
+    let s = cases::scenario::parse(given);
+    let good = s.good;
+    if !good {
         return;
     }
-    let s = input::parse(given);
     let words = s.words;
-    if words > WORDS {
-        io::write_all(2, b"t414_bench: more than 16384 words\n");
-        return;
-    }
-    let mut mem = [0u32; WORDS];
-    let mut journal = [0u32; JOURNAL];
-    print_run(all(s, &given[input::HEAD..], &mut mem[..words], &mut journal));
+    let from = s.from;
+    let mut mem = cases::room::memory();
+    let mut journal = cases::room::longest();
+    print_run(all(s, &given[from..], &mut mem[..words], &mut journal));
 }
 
 fn main() {
-    let mut given = [0u8; INPUT];
+    let mut given = io::buffer();
     let got = io::read_full(0, &mut given);
     bench(&given[..got]);
 }

@@ -5,26 +5,17 @@ use borrow.Author.Needs.{needs}
 use Rattle.t414_bench.proofs.bench.Statement.{statement}
 use Rattle.t414_bench.proofs.bench.Tie as tie
 
-slice-aggregate-write-all : tie.Need-slice-aggregate-write-all
-slice-aggregate-write-all c = search needs
-
-write-all-requires : tie.Need-write-all-requires
-write-all-requires c κs = search needs
+parse-requires : tie.Need-parse-requires
+parse-requires c κs = search needs
 
 returns : tie.Need-returns
 returns c = search needs
 
-parse-requires : tie.Need-parse-requires
-parse-requires c κs = search needs
+memory-requires : tie.Need-memory-requires
+memory-requires c κs = search needs
 
-slice-aggregate-write-all-2 : tie.Need-slice-aggregate-write-all-2
-slice-aggregate-write-all-2 c = search needs
-
-write-all-requires-2 : tie.Need-write-all-requires-2
-write-all-requires-2 c κs = search needs
-
-returns-2 : tie.Need-returns-2
-returns-2 c = search needs
+longest-requires : tie.Need-longest-requires
+longest-requires c κs = search needs
 
 sub-all : tie.Need-sub-all
 sub-all c = search needs
@@ -50,20 +41,17 @@ all-requires c κs = search needs
 print-run-requires : tie.Need-print-run-requires
 print-run-requires c κs = search needs
 
-returns-3 : tie.Need-returns-3
-returns-3 c = search needs
+returns-2 : tie.Need-returns-2
+returns-2 c = search needs
 
 pub bench-spec : {M : Type 1} → statement M
 bench-spec =
     tie.close
     (tie.spec
-    slice-aggregate-write-all
-    write-all-requires
-    returns
     parse-requires
-    slice-aggregate-write-all-2
-    write-all-requires-2
-    returns-2
+    returns
+    memory-requires
+    longest-requires
     sub-all
     part-all-start
     part-all-end
@@ -72,4 +60,4 @@ bench-spec =
     slice-aggregate-all-2
     all-requires
     print-run-requires
-    returns-3)
+    returns-2)
