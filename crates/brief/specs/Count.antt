@@ -7,7 +7,7 @@ use Rattle.rules.specs.Tests.{pick}
 use Rattle.rules.specs.Memory.{Store, word, touched, stores}
 use Rattle.swift.specs.declared.Swift.{Swift}
 
--- the words stored to, by their number: none, or the one at i (01, The journal: words touched; DECISIONS 54)
+-- the words stored to, by their number: none, or the one at i (01, The journal; DECISIONS 54)
 unfoldable pub listed : ℕ → ℕ → List ℕ
 listed zero i = []
 listed (suc n) i = i ∷ []
@@ -21,7 +21,7 @@ made (suc n) i v m = set m i v
 abbrev pub storesOf : Swift → List Store
 storesOf t = pick (t .stores) (word (t .index) (t .value) ∷ []) []
 
--- n is the number of words that a common step stores to, of a memory of size words (01, The journal: words touched; DECISIONS 54)
+-- n is the number of words that a common step stores to, of a memory of size words (01, The journal; DECISIONS 54)
 pub record Counted (size : ℕ) (t : Swift) (n : ℕ) : Type 0 where
   pub few : n ≤ 1
   pub inside : 0 < n → t .index < size
