@@ -1,4 +1,5 @@
-// The commit of a common step: its record has no pair or one. The same words as the commit of a plan would write, with less work.
+// The commit of a common step, whose record has no pair or one, and of a call that changes registers alone. The same words as the commit of a plan
+// would write, with less work.
 use frame::FRAME;
 use frame::is_full;
 use frame::refusal;
@@ -16,6 +17,7 @@ ghost use Prim.Native.Nat.{_+_, _*_, _<_, _≤_};
 ghost use lib.ListN.{length, getD};
 ghost use lib.Seq.{sets};
 ghost use Rattle.rules.specs.Registers.{registers, withCore};
+ghost use Rattle.rules.specs.Work.{begin};
 ghost use Rattle.rules.specs.Journal.{olds, frameBad};
 ghost use Rattle.rules.specs.Calls.{outcomeOf, settled};
 ghost use Rattle.swift.specs.Swift.{swiftWork};
@@ -102,6 +104,29 @@ pub fn commit_common(m: Machine, t: Swift, mem: &mut [u32], journal: &mut [u32])
         regs,
         depth: m.depth + 1,
         used: used + (FRAME + 2 * n),
+    };
+    Reply {
+        machine,
+        answer: Answer::Done,
+        byte: 0,
+    }
+}
+
+// A call that changes registers alone, made real: they become regs.
+pub fn commit_regs(m: Machine, regs: [u32; REGISTERS], mem: &[u32], journal: &mut [u32]) -> Reply
+    requires { ⌜ (length (now journal) ≤ 65536) × (frameBad (length (now journal)) (m .depth) (m .used) ≡ false) ⌝ }
+    ensures { λ r. ⌜ outcomeOf r (now (mem .entry)) (now (journal .exit)) ≡ settled m (now (mem .entry)) (now (journal .entry)) 0 (begin regs) ⌝ }
+{
+    let used = m.used;
+    if is_full(journal.len(), used, 0) {
+        return refusal(m, Answer::JournalFull);
+    }
+    let old = m.regs;
+    put_tail(journal, old, 0, used);
+    let machine = Machine {
+        regs,
+        depth: m.depth + 1,
+        used: used + FRAME,
     };
     Reply {
         machine,

@@ -30,8 +30,6 @@ ghost use Rattle.rules.specs.Registers as registers;
 ghost use Rattle.rules.specs.Links as rules;
 ghost use Rattle.plan.specs.View.{view, Room, Grown};
 
-pub mod clocks;
-
 // A link is moving when it is active and its count is not 0.
 pub fn moving(w: Plan, c: usize) -> bool
     requires { ⌜ c < registers.linkChans ⌝ }

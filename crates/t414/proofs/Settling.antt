@@ -16,7 +16,7 @@ use Rattle.rules.specs.Calls.{Outcome, refused, memoryBad, journalBad, sizeBad,
 use Rattle.rules.specs.declared.Machine.{Machine}
 use Rattle.rules.proofs.Tests.{yes-eq, no-eq}
 use Rattle.laws.proofs.Fine.{Fine, Known, fine-begin}
-use Rattle.laws.proofs.FineLinks.{fine-tick, fine-take, fine-give, fine-event}
+use Rattle.laws.proofs.FineLinks.{fine-take, fine-give, fine-event}
 use Rattle.laws.proofs.FineStep.{fine-step}
 use Rattle.plan.specs.View.{view}
 use Rattle.plan.specs.declared.Plan.{Plan}
@@ -42,9 +42,6 @@ known-of : (p : Plan) (w : Work) → view p ≡ w → Fine Known w → p .answer
 known-of p w e f = omega (arith, ap (λ (x : Work). x .answer) e, f .known)
 
 module _ (regs : List ℕ) (h : length regs ≡ registers) (p : Plan) where
-  pub tick-known : view p ≡ links.tick (begin regs) → p .answer ≤ 12
-  tick-known e = known-of p (links.tick (begin regs)) e (fine-tick (fine-begin regs h))
-
   pub step-known : (mem : List ℕ) → view p ≡ steps.step mem (begin regs) → p .answer ≤ 12
   step-known mem e =
       known-of p (steps.step mem (begin regs)) e

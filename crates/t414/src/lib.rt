@@ -56,8 +56,8 @@ pub fn tick(m: Machine, mem: &mut [u32], journal: &mut [u32]) -> Reply
         return checks::refuse(m, number);
     }
     let regs = m.regs;
-    let p = links::clocks::tick(plan::begin(regs));
-    settle::settle(m, p, 0, mem, journal)
+    let ticked = ticks::tick(regs);
+    brief::commit_regs(m, ticked, mem, journal)
 }
 
 // A byte is taken from an output link.

@@ -1,18 +1,11 @@
 use native.Mathlib.Omega.{arith}
 use mathlib.Core.Path.{_≡_, sym, _∙_}
-use Prim.Native.Nat.{_-_}
-use lib.ListN.{length}
 use mathlib.Core.Bool.{false}
-use Rattle.rules.specs.Registers.{registers}
 use Rattle.rules.specs.Calls.{tick}
-use Rattle.checks.proofs.Refusing.{number-known, stopped, passed}
-use Rattle.t414.proofs.Settling.{ready, tick-known}
+use Rattle.checks.proofs.Refusing.{number-known, stopped, passed, fits, frame-good}
 use borrow.Author.Needs.{needs}
 use Rattle.t414.proofs.tick.Statement.{statement}
 use Rattle.t414.proofs.tick.Tie as tie
-
-long : (c : tie.Start) → length (c .args .m .regs) ≡ registers
-long c = search needs
 
 first-bad-requires : tie.Need-first-bad-requires
 first-bad-requires c κs = search needs
@@ -31,23 +24,16 @@ returns c =
     let a = f .before .before .before .args in
     c .refuse .ensures (a .mem .now) (a .journal .now) ∙ stopped false (a .m) (a .mem .now) (a .journal .now) _ (f .first-bad .result) (f .first-bad .ensures) (i .if1 .taken)
 
-begin-requires : tie.Need-begin-requires
-begin-requires c κs = search needs
-
 tick-requires : tie.Need-tick-requires
 tick-requires c κs = search needs
 
-settle-requires : tie.Need-settle-requires
-settle-requires c κs =
-    let v = c .before .before in
-    let b = v .before in
-    let i = b .before .before in
+commit-regs-requires : tie.Need-commit-regs-requires
+commit-regs-requires c κs =
+    let i = c .before .before .before .before in
     let f = i .before in
-    let S = f .before .before .before in
-    let a = S .args in
-    let p = v .tick .result in
-    let e = rw (b .begin .ensures .0) at (v .tick .ensures .0) in
-    ready false (a .m) (a .mem .now) (a .journal .now) (sym (f .first-bad .ensures) ∙ i .if1 .left) p (tick-known (a .m .regs) (long S) p e) (omega (arith, v .tick .ensures .1, b .begin .ensures)) (omega (arith, v .tick .ensures .1, b .begin .ensures))
+    let a = f .before .before .before .args in
+    let h = sym (f .first-bad .ensures) ∙ i .if1 .left in
+    (fits false (a .m) (a .mem .now) (a .journal .now) h .1, frame-good false (a .m) (a .mem .now) (a .journal .now) h)
 
 same-length : tie.Need-same-length
 same-length c = search needs
@@ -58,13 +44,12 @@ same-length-2 c = search needs
 returns-2 : tie.Need-returns-2
 unfolding tick
 returns-2 c =
-    let s = c .before .before .before .before in
-    let v = s .before .before .before in
-    let b = v .before in
-    let i = b .before .before in
+    let g = c .before .before in
+    let v = g .before .before .before in
+    let i = v .before .before in
     let f = i .before in
     let a = f .before .before .before .args in
-    (rw (v .tick .ensures .0, b .begin .ensures .0) at (s .settle .ensures)) ∙ passed false (a .m) (a .mem .now) (a .journal .now) (sym (f .first-bad .ensures) ∙ i .if1 .left) _
+    (rw (v .tick .ensures) at (g .commit-regs .ensures)) ∙ passed false (a .m) (a .mem .now) (a .journal .now) (sym (f .first-bad .ensures) ∙ i .if1 .left) _
 
 pub tick-spec : {M : Type 1} → statement M
 tick-spec =
@@ -73,9 +58,8 @@ tick-spec =
     first-bad-requires
     refuse-requires
     returns
-    begin-requires
     tick-requires
-    settle-requires
+    commit-regs-requires
     same-length
     same-length-2
     returns-2)
