@@ -1,5 +1,5 @@
-// Alternatives of 000 (1.11) on a plan, but for those of timers: one function for each definition of rules/specs/Channels.antt, its calls nested
-// as there.
+// Alternatives of 000 (1.11) on a plan, but for those of timers: each function is the code of a definition of
+// rules/specs/Channels.antt, its calls nested as there.
 pub mod alternatives; // alt, altwt, enbs, diss
 pub mod guards; // enbc, disc
 

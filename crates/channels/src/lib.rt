@@ -1,5 +1,6 @@
-// Channels of 000 (1.8, 1.10, 1.11) on a plan, soft and hard: one function for each definition of rules/specs/Channels.antt, its calls nested
-// as there. Channels 0 to 8 are hard (01, Links, clocks, slice); every other word of memory can be a soft one.
+// Input, output and channel requests of 000 (1.8, 1.10, 1.11) on a plan: each function is the code of a definition of
+// rules/specs/Channels.antt, its calls nested as there. Channels 0 to 8 are hard (01, Links, clocks, slice), and the
+// crate hard starts their transfers; every other word of memory can be a soft one.
 pub mod requests; // HandleChannelRequest
 pub mod soft; // the wait for a partner, and the message
 pub mod inputs; // in

@@ -22,6 +22,13 @@ pub fn size_bad(memory: usize, journal: usize) -> bool
     65536 < journal
 }
 
+// Whether a channel is no output link.
+pub fn not_output(channel: u32) -> bool
+    ensures { λ r. ⌜ r ≡ rules.notOutput channel ⌝ }
+{
+    4 <= channel
+}
+
 // Whether a channel is no input link.
 pub fn not_input(channel: u32) -> bool
     ensures { λ r. ⌜ r ≡ rules.notInput channel ⌝ }

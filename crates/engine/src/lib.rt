@@ -1,7 +1,5 @@
 // One step as a plan over registers and memory (01, One step): refusals 6, 7 and 9 to 11. No journal; nothing is written.
-use names::ERROR_FLAG;
 use names::FLAGS_REG;
-use names::HALT_ON_ERROR_BIT;
 use names::HALTED;
 use names::HALTED_FLAG;
 use names::IDLE;
@@ -16,29 +14,6 @@ ghost use Prim.Native.Nat.{_<_, _≤_};
 ghost use Rattle.rules.specs.Work.{begin};
 ghost use Rattle.rules.specs.Step as rules;
 ghost use Rattle.plan.specs.View.{view, Room, Grown, Ended};
-
-// The machine halts where HaltOnError is set.
-fn halt_if_asked(w: Plan) -> Plan
-    ensures { λ r. ⌜ (view r ≡ rules.haltIfAsked (view w)) × Grown 0 w r ⌝ }
-{
-    if w.regs[STATUS_REG] & HALT_ON_ERROR_BIT == 0 {
-        return w;
-    }
-    plan::raise(w, FLAGS_REG, HALTED_FLAG)
-}
-
-// Only an error flag that the step has set halts; before is Status before the step.
-fn halt_on_error(w: Plan, before: u32) -> Plan
-    ensures { λ r. ⌜ (view r ≡ rules.haltOnError before (view w)) × Grown 0 w r ⌝ }
-{
-    if before & ERROR_FLAG == 0 {
-        if w.regs[STATUS_REG] & ERROR_FLAG == 0 {
-            return w;
-        }
-        return halt_if_asked(w);
-    }
-    w
-}
 
 // Iptr grows by one, and Oreg takes the nibble in.
 fn fetched(w: Plan, byte: u32) -> Plan
@@ -134,7 +109,7 @@ pub fn step(regs: [u32; REGISTERS], mem: &[u32]) -> Plan
     ensures { λ r. ⌜ (view r ≡ rules.step (now (mem .entry)) (begin regs)) × (r .cut ≤ r .n) × (r .n ≤ 16) ⌝ }
 {
     if regs[FLAGS_REG] & HALTED_FLAG == 0 {
-        return halt_on_error(choose(plan::begin(regs), mem), regs[STATUS_REG]);
+        return halting::halt_on_error(choose(plan::begin(regs), mem), regs[STATUS_REG]);
     }
     plan::refuse(plan::begin(regs), HALTED)
 }

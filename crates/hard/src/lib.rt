@@ -1,4 +1,5 @@
-// Hard channels: the transfer of a link or of the event channel is started (000 1.10; 01, Links, clocks, slice).
+// Hard channels: the transfer of a link or of the event channel is started, or reset (000 1.10, 1.11; 01, Links,
+// clocks, slice). Each function is the code of a definition of rules/specs/Channels.antt.
 use links::event_meets;
 use links::receive;
 use loads::word_at;

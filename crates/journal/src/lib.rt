@@ -1,4 +1,5 @@
-// The journal of a machine's calls: each accepted call appends a record, and undo takes the last one back.
+// The journal of a machine's calls: the commit of a plan appends its record and makes its stores, and undo takes the
+// last record back. A call that makes no plan is committed by the crate brief.
 use frame::FRAME;
 use plan::Plan;
 use rules::Answer;

@@ -1,5 +1,6 @@
-// Links and the event channel on a plan: what take, give and event do, and what an `in` that finds something held does (01, Links, clocks, slice).
-// One function for each definition of rules/specs/Links.antt. The words of channel c stand at 3 * c from the registers of channel 0.
+// Links and the event channel on a plan: what take, give and event do, and what an `in` that finds something held does
+// (01, Links, clocks, slice). Each function is the code of a definition of rules/specs/Links.antt; those of the clocks
+// are in the crate ticks. The words of channel c stand at 3 * c from the registers of channel 0.
 use loads::byte_at;
 use names::ACTIVE_BIT;
 use names::CHANNEL_REG;

@@ -1,4 +1,5 @@
-// Which function a byte names, and which operation Oreg names (000 1.11). The tables are those of rules.
+// Which function a byte names, and which operation Oreg names (000 1.11). The tables are those of rules; that of
+// operations is cut into the crates low_codes, middle_codes and high_codes.
 use names::OREG;
 use names::UNLISTED;
 use plan::Plan;

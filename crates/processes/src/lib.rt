@@ -1,5 +1,5 @@
-// The operations that start, end and time-slice processes (000 1.9, 1.11), on a plan: one function for each definition of
-// rules/specs/Scheduling.antt, its calls nested as there.
+// The functions and operations that start, run, end and time-slice processes (000 1.9, 1.11), on a plan: each function
+// is the code of a definition of rules/specs/Scheduling.antt, its calls nested as there.
 pub mod slices; // TimeSlice, j
 pub mod processes; // startp, endp, runp
 pub mod loops; // lend

@@ -1,5 +1,6 @@
-// The scheduling procedures of 000 (1.8 to 1.10) on a plan, one function for each definition of rules/specs/Scheduling.antt, its calls nested
-// as there. Every function says which work its result stands for, and how many single stores it adds at most.
+// Which process runs (000 1.10, 1.11), on a plan: each function is the code of a definition of
+// rules/specs/Scheduling.antt, or, in selected, of rules/specs/Timers.antt, its calls nested as there. Every function
+// says which work its result stands for, and how many single stores it adds at most.
 pub mod running; // Run
 pub mod next; // StartNextProcess, and acting on the GotoSNP bit
 pub mod stopping; // Wait, stopp, stoperr

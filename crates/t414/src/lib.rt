@@ -1,5 +1,6 @@
-// The public calls of the T414 stepper: from any machine, memory, journal and arguments to the reply, with the lent words as the call leaves them.
-// Each checks sizes, channel and frame, then plans, then commits; a refusal alters nothing.
+// The public calls of the T414 stepper: from any machine, memory, journal and arguments to the reply, with the lent
+// words as the call leaves them. Each makes its checks (sizes, channel, frame), then works out what the call does, then
+// commits; a refusal alters nothing.
 use rules::Answer;
 use rules::Machine;
 use rules::Reply;
@@ -64,7 +65,13 @@ pub fn tick(m: Machine, mem: &mut [u32], journal: &mut [u32]) -> Reply
 pub fn take(m: Machine, mem: &mut [u32], journal: &mut [u32], channel: u32) -> Reply
     ensures { λ r. ⌜ TakeContract channel m (now (mem .entry)) (now (journal .entry)) r (now (mem .exit)) (now (journal .exit)) ⌝ }
 {
-    let number = checks::first_bad(4 <= channel, mem.len(), journal.len(), m.depth, m.used);
+    let number = checks::first_bad(
+        checks::not_output(channel),
+        mem.len(),
+        journal.len(),
+        m.depth,
+        m.used,
+    );
     if number != 0 {
         return checks::refuse(m, number);
     }

@@ -1,4 +1,4 @@
-// The parts of undo: what the last record tells.
+// The parts of undo: the pairs of the last record are tested and written back, and its registers are taken out.
 use rules::REGISTERS;
 ghost use mathlib.Core.Path.{_≡_};
 ghost use mathlib.Core.Bool.{false};

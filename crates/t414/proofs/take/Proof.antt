@@ -2,7 +2,6 @@ use native.Mathlib.Omega.{arith}
 use mathlib.Core.Path.{_≡_, sym, _∙_}
 use Prim.Native.Nat.{_-_}
 use lib.ListN.{length}
-use lib.Dec.{leb}
 use Rattle.rules.specs.Registers.{registers}
 use Rattle.rules.specs.Calls.{take, notOutput}
 use Rattle.checks.proofs.Refusing.{number-known, stopped, passed, channel-good, output-good}
@@ -14,42 +13,51 @@ use Rattle.t414.proofs.take.Tie as tie
 long : (c : tie.Start) → length (c .args .m .regs) ≡ registers
 long c = search needs
 
+not-output-requires : tie.Need-not-output-requires
+not-output-requires c κs = search needs
+
 first-bad-requires : tie.Need-first-bad-requires
 first-bad-requires c κs = search needs
 
 refuse-requires : tie.Need-refuse-requires
 refuse-requires c κs =
     let f = c .before in
-    let a = f .before .before .before .args in
-    omega (arith, f .first-bad .ensures, number-known (leb 4 (a .channel)) (a .m) (a .mem .now) (a .journal .now))
+    let n = f .before in
+    let a = n .before .before .before .args in
+    omega (arith, f .first-bad .ensures, number-known (n .not-output .result) (a .m) (a .mem .now) (a .journal .now))
 
 returns : tie.Need-returns
-unfolding take notOutput
+unfolding take
 returns c =
     let i = c .before in
     let f = i .before in
-    let a = f .before .before .before .args in
-    c .refuse .ensures (a .mem .now) (a .journal .now) ∙ stopped (leb 4 (a .channel)) (a .m) (a .mem .now) (a .journal .now) _ (f .first-bad .result) (f .first-bad .ensures) (i .if1 .taken)
+    let n = f .before in
+    let a = n .before .before .before .args in
+    rw (← n .not-output .ensures) (c .refuse .ensures (a .mem .now) (a .journal .now) ∙ stopped (n .not-output .result) (a .m) (a .mem .now) (a .journal .now) _ (f .first-bad .result) (f .first-bad .ensures) (i .if1 .taken))
 
 begin-requires : tie.Need-begin-requires
 begin-requires c κs = search needs
 
 taken-requires : tie.Need-taken-requires
+unfolding notOutput
 taken-requires c κs =
     let b = c .before in
     let i = b .before .before in
     let f = i .before in
-    let a = f .before .before .before .args in
-    let g = output-good (a .channel) (channel-good (leb 4 (a .channel)) (a .m) (a .mem .now) (a .journal .now) (sym (f .first-bad .ensures) ∙ i .if1 .left)) in
+    let n = f .before in
+    let a = n .before .before .before .args in
+    let g = output-good (a .channel) (sym (n .not-output .ensures) ∙ channel-good (n .not-output .result) (a .m) (a .mem .now) (a .journal .now) (sym (f .first-bad .ensures) ∙ i .if1 .left)) in
     (omega (arith, g), (omega (arith, b .begin .ensures), omega (arith, b .begin .ensures)))
 
 take-requires : tie.Need-take-requires
+unfolding notOutput
 take-requires c κs =
     let b = c .before .before .before in
     let i = b .before .before in
     let f = i .before in
-    let a = f .before .before .before .args in
-    let g = output-good (a .channel) (channel-good (leb 4 (a .channel)) (a .m) (a .mem .now) (a .journal .now) (sym (f .first-bad .ensures) ∙ i .if1 .left)) in
+    let n = f .before in
+    let a = n .before .before .before .args in
+    let g = output-good (a .channel) (sym (n .not-output .ensures) ∙ channel-good (n .not-output .result) (a .m) (a .mem .now) (a .journal .now) (sym (f .first-bad .ensures) ∙ i .if1 .left)) in
     (omega (arith, g), (omega (arith, b .begin .ensures), omega (arith, b .begin .ensures)))
 
 cast-settle : tie.Need-cast-settle
@@ -61,11 +69,12 @@ settle-requires c κs =
     let b = v .before .before .before .before in
     let i = b .before .before in
     let f = i .before in
-    let S = f .before .before .before in
+    let n = f .before in
+    let S = n .before .before .before in
     let a = S .args in
     let p = v .take .result in
     let e = rw (b .begin .ensures .0) at (v .take .ensures .0) in
-    ready (leb 4 (a .channel)) (a .m) (a .mem .now) (a .journal .now) (sym (f .first-bad .ensures) ∙ i .if1 .left) p (take-known (a .m .regs) (long S) p (a .mem .now) (a .channel) e) (omega (arith, v .take .ensures .1, b .begin .ensures)) (omega (arith, v .take .ensures .1, b .begin .ensures))
+    ready (n .not-output .result) (a .m) (a .mem .now) (a .journal .now) (sym (f .first-bad .ensures) ∙ i .if1 .left) p (take-known (a .m .regs) (long S) p (a .mem .now) (a .channel) e) (omega (arith, v .take .ensures .1, b .begin .ensures)) (omega (arith, v .take .ensures .1, b .begin .ensures))
 
 same-length : tie.Need-same-length
 same-length c = search needs
@@ -74,7 +83,7 @@ same-length-2 : tie.Need-same-length-2
 same-length-2 c = search needs
 
 returns-2 : tie.Need-returns-2
-unfolding take notOutput
+unfolding take
 returns-2 c =
     let s = c .before .before .before .before in
     let v = s .before .before .before in
@@ -82,13 +91,15 @@ returns-2 c =
     let b = t .before .before in
     let i = b .before .before in
     let f = i .before in
-    let a = f .before .before .before .args in
-    (rw (v .take .ensures .0, t .taken .ensures .0, b .begin .ensures .0) at (s .settle .ensures)) ∙ passed (leb 4 (a .channel)) (a .m) (a .mem .now) (a .journal .now) (sym (f .first-bad .ensures) ∙ i .if1 .left) _
+    let n = f .before in
+    let a = n .before .before .before .args in
+    rw (← n .not-output .ensures) ((rw (v .take .ensures .0, t .taken .ensures .0, b .begin .ensures .0) at (s .settle .ensures)) ∙ passed (n .not-output .result) (a .m) (a .mem .now) (a .journal .now) (sym (f .first-bad .ensures) ∙ i .if1 .left) _)
 
 pub take-spec : {M : Type 1} → statement M
 take-spec =
     tie.close
     (tie.spec
+    not-output-requires
     first-bad-requires
     refuse-requires
     returns

@@ -1,8 +1,8 @@
 use borrow.Author.Needs.{needs}
 use Rattle.rules.proofs.Tests.{yes-eq, no-eq}
 use Rattle.rules.specs.Step as steps
-use Rattle.engine.proofs.halt_if_asked.Statement.{statement}
-use Rattle.engine.proofs.halt_if_asked.Tie as tie
+use Rattle.halting.proofs.halt_if_asked.Statement.{statement}
+use Rattle.halting.proofs.halt_if_asked.Tie as tie
 
 element-copy-out-if1 : tie.Need-element-copy-out-if1
 element-copy-out-if1 c = search needs

@@ -1,8 +1,8 @@
 use borrow.Author.Needs.{needs}
 use Rattle.rules.proofs.Tests.{yes-eq, no-eq}
 use Rattle.rules.specs.Step as steps
-use Rattle.engine.proofs.halt_on_error.Statement.{statement}
-use Rattle.engine.proofs.halt_on_error.Tie as tie
+use Rattle.halting.proofs.halt_on_error.Statement.{statement}
+use Rattle.halting.proofs.halt_on_error.Tie as tie
 
 element-copy-out-if2 : tie.Need-element-copy-out-if2
 element-copy-out-if2 c = search needs

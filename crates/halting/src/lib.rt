@@ -1,0 +1,33 @@
+// When a step halts the machine (01, One step), on a plan.
+use names::ERROR_FLAG;
+use names::FLAGS_REG;
+use names::HALT_ON_ERROR_BIT;
+use names::HALTED_FLAG;
+use names::STATUS_REG;
+use plan::Plan;
+ghost use mathlib.Core.Path.{_≡_};
+ghost use Rattle.rules.specs.Step as rules;
+ghost use Rattle.plan.specs.View.{view, Grown};
+
+// The machine halts where HaltOnError is set.
+fn halt_if_asked(w: Plan) -> Plan
+    ensures { λ r. ⌜ (view r ≡ rules.haltIfAsked (view w)) × Grown 0 w r ⌝ }
+{
+    if w.regs[STATUS_REG] & HALT_ON_ERROR_BIT == 0 {
+        return w;
+    }
+    plan::raise(w, FLAGS_REG, HALTED_FLAG)
+}
+
+// Only an error flag that the step has set halts; before is Status before the step.
+pub fn halt_on_error(w: Plan, before: u32) -> Plan
+    ensures { λ r. ⌜ (view r ≡ rules.haltOnError before (view w)) × Grown 0 w r ⌝ }
+{
+    if before & ERROR_FLAG == 0 {
+        if w.regs[STATUS_REG] & ERROR_FLAG == 0 {
+            return w;
+        }
+        return halt_if_asked(w);
+    }
+    w
+}
