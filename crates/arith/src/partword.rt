@@ -1,10 +1,10 @@
 // Numbers of less than a word: A unsigned, B signed.
 use crate::signed::biased;
 use crate::signed::word_of;
+use evaluation::pop;
+use evaluation::result;
 use rules::Core;
 use stack::checks::error_if;
-use stack::registers::pop;
-use stack::registers::result;
 ghost use mathlib.Core.Path.{_≡_};
 ghost use Rattle.rules.specs.Stack as rules;
 

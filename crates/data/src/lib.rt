@@ -2,7 +2,6 @@
 // rules/specs/Data.antt.
 pub mod stack; // what the evaluation stack and the pointers do
 pub mod locals; // ldl, stl, ldnl, stnl
-pub mod calls; // call, ret, altend
 pub mod bytes; // lb, sb
 pub mod blocks; // move
 pub mod queues; // saveh, savel
@@ -10,9 +9,6 @@ pub mod queues; // saveh, savel
 pub use blocks::block_move;
 pub use bytes::lb;
 pub use bytes::sb;
-pub use calls::altend;
-pub use calls::call;
-pub use calls::ret;
 pub use locals::ldl;
 pub use locals::ldnl;
 pub use locals::stl;

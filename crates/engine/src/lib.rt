@@ -1,4 +1,6 @@
 // One step as a plan over registers and memory (01, One step): refusals 6, 7 and 9 to 11. No journal; nothing is written.
+mod dispatch; // which function a byte names, which operation Oreg names
+
 use names::FLAGS_REG;
 use names::HALTED;
 use names::HALTED_FLAG;
@@ -32,7 +34,7 @@ fn execute(w: Plan, mem: &[u32], code: u32) -> Plan
     requires { ⌜ Room 12 w × (w .count ≡ 0) ⌝ }
     ensures { λ r. ⌜ (view r ≡ rules.execute (now (mem .entry)) code (view w)) × Ended 12 w r ⌝ }
 {
-    schedule::act_on_snp(plan::put(operations::function(w, mem, code), OREG, 0), mem)
+    next::act_on_snp(plan::put(dispatch::function(w, mem, code), OREG, 0), mem)
 }
 
 fn decode(w: Plan, mem: &[u32], code: u32) -> Plan
@@ -40,10 +42,10 @@ fn decode(w: Plan, mem: &[u32], code: u32) -> Plan
     ensures { λ r. ⌜ (view r ≡ rules.decode (now (mem .entry)) code (view w)) × Ended 12 w r ⌝ }
 {
     if code == 2 {
-        return plan::put_core(w, stack::registers::pfix(plan::core_of(w)));
+        return plan::put_core(w, evaluation::pfix(plan::core_of(w)));
     }
     if code == 6 {
-        return plan::put_core(w, stack::registers::nfix(plan::core_of(w)));
+        return plan::put_core(w, evaluation::nfix(plan::core_of(w)));
     }
     execute(w, mem, code)
 }
@@ -74,10 +76,10 @@ fn timers_first(w: Plan, mem: &[u32]) -> Plan
     ensures { λ r. ⌜ (view r ≡ rules.timersFirst (now (mem .entry)) (view w)) × Ended 12 w r ⌝ }
 {
     if timer_queues::timer_ready(w, 0) {
-        return schedule::act_on_snp(timers::handle_timer_request(w, mem, 0), mem);
+        return next::act_on_snp(timers::handle_timer_request(w, mem, 0), mem);
     }
     if timer_queues::timer_ready(w, 1) {
-        return schedule::act_on_snp(timers::handle_timer_request(w, mem, 1), mem);
+        return next::act_on_snp(timers::handle_timer_request(w, mem, 1), mem);
     }
     instruction_unless_idle(w, mem)
 }
@@ -89,7 +91,7 @@ fn channels_first(w: Plan, mem: &[u32]) -> Plan
 {
     let c = channels::requested(w);
     if c < 9 {
-        return schedule::act_on_snp(channels::handle_channel_request(w, mem, c), mem);
+        return next::act_on_snp(channels::handle_channel_request(w, mem, c), mem);
     }
     timers_first(w, mem)
 }

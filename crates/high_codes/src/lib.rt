@@ -14,10 +14,10 @@ pub fn operate_high(w: Plan, mem: &[u32], code: u32) -> Plan
     match code {
         0x40 => plan::attempted(w, stack::logic::shr(plan::core_of(w))),
         0x41 => plan::attempted(w, stack::logic::shl(plan::core_of(w))),
-        0x42 => plan::put_core(w, stack::registers::mint(plan::core_of(w))),
+        0x42 => plan::put_core(w, evaluation::mint(plan::core_of(w))),
         0x43 => alternatives::alt(w, mem),
         0x44 => alternatives::altwt(w, mem),
-        0x45 => data::altend(w, mem),
+        0x45 => frames::altend(w, mem),
         0x46 => plan::put_core(w, stack::logic::and(plan::core_of(w))),
         0x47 => timers::enbt(w, mem),
         0x48 => alternatives::enbc(w, mem),

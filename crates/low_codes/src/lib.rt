@@ -12,13 +12,13 @@ pub fn operate_low(w: Plan, mem: &[u32], code: u32) -> Plan
     ensures { λ r. ⌜ (view r ≡ rules.operate code (now (mem .entry)) (view w)) × Ended 12 w r ⌝ }
 {
     match code {
-        0x00 => plan::put_core(w, stack::registers::rev(plan::core_of(w))),
+        0x00 => plan::put_core(w, evaluation::rev(plan::core_of(w))),
         0x01 => data::lb(w, mem),
         0x02 => plan::put_core(w, stack::logic::bsub(plan::core_of(w))),
         0x03 => processes::endp(w, mem),
         0x04 => plan::put_core(w, arith::diff(plan::core_of(w))),
         0x05 => plan::put_core(w, arith::add(plan::core_of(w))),
-        0x06 => plan::put_core(w, stack::registers::gcall(plan::core_of(w))),
+        0x06 => plan::put_core(w, evaluation::gcall(plan::core_of(w))),
         0x07 => channels::input(w, mem),
         0x08 => plan::put_core(w, arith::prod(plan::core_of(w))),
         0x09 => plan::put_core(w, arith::gt(plan::core_of(w))),
@@ -37,10 +37,10 @@ pub fn operate_low(w: Plan, mem: &[u32], code: u32) -> Plan
         0x18 => plan::put_both(w, stack::clocks::sthf(plan::core_of(w), plan::system_of(w))),
         0x19 => plan::put_core(w, long::norm(plan::core_of(w))),
         0x1A => plan::put_core(w, long::ldiv(plan::core_of(w))),
-        0x1B => plan::put_core(w, stack::registers::ldpi(plan::core_of(w))),
+        0x1B => plan::put_core(w, evaluation::ldpi(plan::core_of(w))),
         0x1C => plan::put_both(w, stack::clocks::stlf(plan::core_of(w), plan::system_of(w))),
         0x1D => plan::put_core(w, long::xdbl(plan::core_of(w))),
-        0x1E => plan::put_core(w, stack::registers::ldpri(plan::core_of(w))),
+        0x1E => plan::put_core(w, evaluation::ldpri(plan::core_of(w))),
         0x1F => plan::put_core(w, arith::rem(plan::core_of(w))),
         _ => plan::refuse(w, UNLISTED),
     }

@@ -12,14 +12,14 @@ pub fn operate_middle(w: Plan, mem: &[u32], code: u32) -> Plan
     ensures { λ r. ⌜ (view r ≡ rules.operate code (now (mem .entry)) (view w)) × Ended 12 w r ⌝ }
 {
     match code {
-        0x20 => data::ret(w, mem),
+        0x20 => frames::ret(w, mem),
         0x21 => processes::lend(w, mem),
         0x22 => plan::put_core(
             w,
             stack::clocks::ldtimer(plan::core_of(w), plan::system_of(w)),
         ),
         0x29 => plan::put_core(w, stack::checks::testerr(plan::core_of(w))),
-        0x2A => plan::put_core(w, stack::registers::testpranal(plan::core_of(w))),
+        0x2A => plan::put_core(w, evaluation::testpranal(plan::core_of(w))),
         0x2B => timers::tin(w, mem),
         0x2C => plan::put_core(w, arith::div(plan::core_of(w))),
         0x2E => timers::dist(w, mem),
@@ -36,7 +36,7 @@ pub fn operate_middle(w: Plan, mem: &[u32], code: u32) -> Plan
         0x39 => processes::runp(w, mem),
         0x3A => plan::put_core(w, arith::partword::xword(plan::core_of(w))),
         0x3B => data::sb(w, mem),
-        0x3C => plan::put_core(w, stack::registers::gajw(plan::core_of(w))),
+        0x3C => plan::put_core(w, evaluation::gajw(plan::core_of(w))),
         0x3D => data::savel(w, mem),
         0x3E => data::saveh(w, mem),
         0x3F => plan::put_core(w, stack::logic::wcnt(plan::core_of(w))),

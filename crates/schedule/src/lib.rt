@@ -2,12 +2,9 @@
 // rules/specs/Scheduling.antt, or, in selected, of rules/specs/Timers.antt, its calls nested as there. Every function
 // says which work its result stands for, and how many single stores it adds at most.
 pub mod running; // Run
-pub mod next; // StartNextProcess, and acting on the GotoSNP bit
 pub mod stopping; // Wait, stopp, stoperr
 pub mod selected; // IsThisSelectedProcess, which all disable operations use
 
-pub use next::act_on_snp;
-pub use next::start_next_process;
 pub use running::run;
 pub use selected::drop_b;
 pub use selected::is_this_selected_process;

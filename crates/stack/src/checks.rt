@@ -1,6 +1,6 @@
 // The error flag and halt-on-error.
-use super::registers::pop;
-use super::registers::push;
+use evaluation::pop;
+use evaluation::push;
 use names::ERROR_FLAG;
 use names::HALT_ON_ERROR_BIT;
 use rules::Core;

@@ -1,6 +1,6 @@
 // Queue pointers and clocks.
-use super::registers::pop;
-use super::registers::push;
+use evaluation::pop;
+use evaluation::push;
 use names::CLOCKS_RUN;
 use rules::Both;
 use rules::Core;

@@ -3,4 +3,3 @@
 pub mod checks;
 pub mod clocks;
 pub mod logic;
-pub mod registers;

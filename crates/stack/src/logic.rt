@@ -1,6 +1,6 @@
 // Subscripts, counts and bits.
-use super::registers::result;
-use super::registers::with_a;
+use evaluation::result;
+use evaluation::with_a;
 use rules::Attempt;
 use rules::Core;
 ghost use mathlib.Core.Path.{_≡_};

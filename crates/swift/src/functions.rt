@@ -2,7 +2,6 @@
 use crate::Swift;
 use rules::Core;
 use rules::REGISTERS;
-use stack::registers;
 ghost use mathlib.Core.Path.{_≡_};
 ghost use Rattle.swift.specs.Swift as swift;
 ghost use Rattle.rules.specs.Core as rules;
@@ -81,7 +80,7 @@ fn ldl(mem: &[u32], s: Core) -> Swift
     let i = words::index_of(words::at_word(words::wptr_of(s.wdesc), s.oreg));
     let at = i as usize;
     if at < mem.len() {
-        return plain(registers::push(mem[at], s));
+        return plain(evaluation::push(mem[at], s));
     }
     cold()
 }
@@ -92,7 +91,7 @@ fn ldnl(mem: &[u32], s: Core) -> Swift
     let i = words::index_of(words::at_word(s.a, s.oreg));
     let at = i as usize;
     if at < mem.len() {
-        return plain(registers::with_a(mem[at], s));
+        return plain(evaluation::with_a(mem[at], s));
     }
     cold()
 }
@@ -102,7 +101,7 @@ fn stl(mem: &[u32], s: Core) -> Swift
 {
     let i = words::index_of(words::at_word(words::wptr_of(s.wdesc), s.oreg));
     if (i as usize) < mem.len() {
-        return storing(i, s.a, registers::pop(s));
+        return storing(i, s.a, evaluation::pop(s));
     }
     cold()
 }
@@ -112,7 +111,7 @@ fn stnl(mem: &[u32], s: Core) -> Swift
 {
     let i = words::index_of(words::at_word(s.a, s.oreg));
     if (i as usize) < mem.len() {
-        return storing(i, s.b, registers::with_a(s.c, s));
+        return storing(i, s.b, evaluation::with_a(s.c, s));
     }
     cold()
 }
@@ -133,26 +132,26 @@ fn operate(code: u32, s: Core) -> Swift
     ensures { λ r. ⌜ r ≡ swift.operate code s ⌝ }
 {
     match code {
-        0x00 => quick(s.status, stack::registers::rev(s)),
+        0x00 => quick(s.status, evaluation::rev(s)),
         0x02 => quick(s.status, stack::logic::bsub(s)),
         0x04 => quick(s.status, arith::diff(s)),
         0x05 => quick(s.status, arith::add(s)),
-        0x06 => quick(s.status, stack::registers::gcall(s)),
+        0x06 => quick(s.status, evaluation::gcall(s)),
         0x08 => quick(s.status, arith::prod(s)),
         0x09 => quick(s.status, arith::gt(s)),
         0x0A => quick(s.status, stack::logic::wsub(s)),
         0x0C => quick(s.status, arith::sub(s)),
         0x13 => quick(s.status, stack::checks::csub0(s)),
-        0x1B => quick(s.status, stack::registers::ldpi(s)),
-        0x1E => quick(s.status, stack::registers::ldpri(s)),
+        0x1B => quick(s.status, evaluation::ldpi(s)),
+        0x1E => quick(s.status, evaluation::ldpri(s)),
         0x1F => quick(s.status, arith::rem(s)),
         0x2C => quick(s.status, arith::div(s)),
         0x32 => quick(s.status, stack::logic::bitnot(s)),
         0x33 => quick(s.status, stack::logic::xor(s)),
         0x34 => quick(s.status, stack::logic::bcnt(s)),
-        0x3C => quick(s.status, stack::registers::gajw(s)),
+        0x3C => quick(s.status, evaluation::gajw(s)),
         0x3F => quick(s.status, stack::logic::wcnt(s)),
-        0x42 => quick(s.status, stack::registers::mint(s)),
+        0x42 => quick(s.status, evaluation::mint(s)),
         0x46 => quick(s.status, stack::logic::and(s)),
         0x4B => quick(s.status, stack::logic::or(s)),
         0x4D => quick(s.status, stack::checks::ccnt1(s)),
@@ -168,17 +167,17 @@ pub fn decode(mem: &[u32], regs: [u32; REGISTERS], code: u32, s: Core) -> Swift
 {
     match code {
         0x0 => j(regs, s),
-        0x1 => quick(s.status, stack::registers::ldlp(s)),
-        0x2 => prefix(stack::registers::pfix(s)),
+        0x1 => quick(s.status, evaluation::ldlp(s)),
+        0x2 => prefix(evaluation::pfix(s)),
         0x3 => ldnl(mem, s),
-        0x4 => quick(s.status, stack::registers::ldc(s)),
-        0x5 => quick(s.status, stack::registers::ldnlp(s)),
-        0x6 => prefix(stack::registers::nfix(s)),
+        0x4 => quick(s.status, evaluation::ldc(s)),
+        0x5 => quick(s.status, evaluation::ldnlp(s)),
+        0x6 => prefix(evaluation::nfix(s)),
         0x7 => ldl(mem, s),
         0x8 => quick(s.status, arith::adc(s)),
-        0xA => quick(s.status, stack::registers::cj(s)),
-        0xB => quick(s.status, stack::registers::ajw(s)),
-        0xC => quick(s.status, stack::registers::eqc(s)),
+        0xA => quick(s.status, evaluation::cj(s)),
+        0xB => quick(s.status, evaluation::ajw(s)),
+        0xC => quick(s.status, evaluation::eqc(s)),
         0xD => stl(mem, s),
         0xE => stnl(mem, s),
         0xF => operate(s.oreg, s),

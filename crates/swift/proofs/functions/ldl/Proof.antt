@@ -12,7 +12,7 @@ use Rattle.swift.proofs.functions.ldl.Statement.{statement}
 use Rattle.swift.proofs.functions.ldl.Tie as tie
 use Rattle.swift.proofs.functions.ldl.Reads as reads
 use Rattle.swift.proofs.functions.ldl.Lts as lts
-use Rattle.stack.proofs.registers.push.Reads as push-reads
+use Rattle.evaluation.proofs.push.Reads as push-reads
 use Rattle.swift.proofs.functions.cold.Reads as cold-reads
 use Rattle.swift.proofs.functions.plain.Reads as plain-reads
 use Rattle.words.proofs.at_word.Reads as at-word-reads

@@ -12,7 +12,7 @@ use Rattle.swift.proofs.functions.ldnl.Statement.{statement}
 use Rattle.swift.proofs.functions.ldnl.Tie as tie
 use Rattle.swift.proofs.functions.ldnl.Reads as reads
 use Rattle.swift.proofs.functions.ldnl.Lts as lts
-use Rattle.stack.proofs.registers.with_a.Reads as with-a-reads
+use Rattle.evaluation.proofs.with_a.Reads as with-a-reads
 use Rattle.swift.proofs.functions.cold.Reads as cold-reads
 use Rattle.swift.proofs.functions.plain.Reads as plain-reads
 use Rattle.words.proofs.at_word.Reads as at-word-reads

@@ -31,12 +31,12 @@ use Rattle.stack.proofs.logic.or.Reads as or-reads
 use Rattle.stack.proofs.logic.wcnt.Reads as wcnt-reads
 use Rattle.stack.proofs.logic.wsub.Reads as wsub-reads
 use Rattle.stack.proofs.logic.xor.Reads as xor-reads
-use Rattle.stack.proofs.registers.gajw.Reads as gajw-reads
-use Rattle.stack.proofs.registers.gcall.Reads as gcall-reads
-use Rattle.stack.proofs.registers.ldpi.Reads as ldpi-reads
-use Rattle.stack.proofs.registers.ldpri.Reads as ldpri-reads
-use Rattle.stack.proofs.registers.mint.Reads as mint-reads
-use Rattle.stack.proofs.registers.rev.Reads as rev-reads
+use Rattle.evaluation.proofs.gajw.Reads as gajw-reads
+use Rattle.evaluation.proofs.gcall.Reads as gcall-reads
+use Rattle.evaluation.proofs.ldpi.Reads as ldpi-reads
+use Rattle.evaluation.proofs.ldpri.Reads as ldpri-reads
+use Rattle.evaluation.proofs.mint.Reads as mint-reads
+use Rattle.evaluation.proofs.rev.Reads as rev-reads
 use Rattle.swift.proofs.functions.cold.Reads as cold-reads
 use Rattle.swift.proofs.functions.quick.Reads as quick-reads
 

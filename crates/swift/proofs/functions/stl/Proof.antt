@@ -12,7 +12,7 @@ use Rattle.swift.proofs.functions.stl.Statement.{statement}
 use Rattle.swift.proofs.functions.stl.Tie as tie
 use Rattle.swift.proofs.functions.stl.Reads as reads
 use Rattle.swift.proofs.functions.stl.Lts as lts
-use Rattle.stack.proofs.registers.pop.Reads as pop-reads
+use Rattle.evaluation.proofs.pop.Reads as pop-reads
 use Rattle.swift.proofs.functions.cold.Reads as cold-reads
 use Rattle.swift.proofs.functions.storing.Reads as storing-reads
 use Rattle.words.proofs.at_word.Reads as at-word-reads

@@ -12,7 +12,7 @@ use Rattle.swift.proofs.functions.stnl.Statement.{statement}
 use Rattle.swift.proofs.functions.stnl.Tie as tie
 use Rattle.swift.proofs.functions.stnl.Reads as reads
 use Rattle.swift.proofs.functions.stnl.Lts as lts
-use Rattle.stack.proofs.registers.with_a.Reads as with-a-reads
+use Rattle.evaluation.proofs.with_a.Reads as with-a-reads
 use Rattle.swift.proofs.functions.cold.Reads as cold-reads
 use Rattle.swift.proofs.functions.storing.Reads as storing-reads
 use Rattle.words.proofs.at_word.Reads as at-word-reads
