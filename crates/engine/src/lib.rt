@@ -1,6 +1,4 @@
 // One step as a plan over registers and memory (01, One step): refusals 6, 7 and 9 to 11. No journal; nothing is written.
-mod dispatch; // which function a byte names, which operation Oreg names
-
 use names::FLAGS_REG;
 use names::HALTED;
 use names::HALTED_FLAG;
@@ -34,7 +32,7 @@ fn execute(w: Plan, mem: &[u32], code: u32) -> Plan
     requires { ⌜ Room 12 w × (w .count ≡ 0) ⌝ }
     ensures { λ r. ⌜ (view r ≡ rules.execute (now (mem .entry)) code (view w)) × Ended 12 w r ⌝ }
 {
-    next::act_on_snp(plan::put(dispatch::function(w, mem, code), OREG, 0), mem)
+    next::act_on_snp(plan::put(operations::function(w, mem, code), OREG, 0), mem)
 }
 
 fn decode(w: Plan, mem: &[u32], code: u32) -> Plan

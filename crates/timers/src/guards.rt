@@ -1,4 +1,5 @@
 // Timer guards (000 1.11): enable timer and disable timer.
+use deletion::delete_first_step;
 use loads::word_at;
 use names::AREG;
 use names::BREG;
@@ -18,7 +19,6 @@ use schedule::drop_b;
 use schedule::is_this_selected_process;
 use store::load_word;
 use store::w_index_word;
-use timer_queues::deletion::delete_first_step;
 use words::at_word;
 use words::later;
 ghost use mathlib.Core.Path.{_≡_};

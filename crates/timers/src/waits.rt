@@ -1,4 +1,5 @@
 // Timer input and the wait of a timer alternative (000 1.11).
+use insertion::insert_first_step;
 use names::AREG;
 use names::BREG;
 use names::CLOCK_REG;
@@ -19,7 +20,6 @@ use plan::refuse;
 use schedule::wait;
 use store::r_index_word;
 use store::w_index_word;
-use timer_queues::insertion::insert_first_step;
 use timer_queues::queues::next_time;
 use words::later;
 use words::level;
