@@ -6,8 +6,6 @@ use rules::Machine;
 use rules::Reply;
 ghost use Rattle.history.specs.Contracts.{FreshContract, StepContract, TickContract, TakeContract, GiveContract, EventContract, UndoContract, ClearContract};
 
-mod settle;
-
 // A machine with the code loaded; memory is made anew, the journal is not written.
 pub fn fresh(mem: &mut [u32], journal: &mut [u32], code: &[u8]) -> Reply
     ensures { λ r. ⌜ FreshContract (now (code .entry)) (now (mem .entry)) (now (journal .entry)) r (now (mem .exit)) (now (journal .exit)) ⌝ }
@@ -43,9 +41,9 @@ pub fn step(m: Machine, mem: &mut [u32], journal: &mut [u32]) -> Reply
         if common {
             return brief::commit_common(m, t, mem, journal);
         }
-        return settle::planned(m, mem, journal);
+        return settling::planned(m, mem, journal);
     }
-    settle::planned(m, mem, journal)
+    settling::planned(m, mem, journal)
 }
 
 // The clocks go on by one.
@@ -80,7 +78,7 @@ pub fn take(m: Machine, mem: &mut [u32], journal: &mut [u32], channel: u32) -> R
     let w = plan::begin(regs);
     let byte = links::taken(w, mem, c);
     let p = links::take(w, mem, c);
-    settle::settle(m, p, byte as u8, mem, journal)
+    settling::settle(m, p, byte as u8, mem, journal)
 }
 
 // A byte is given to an input link.
@@ -99,7 +97,7 @@ pub fn give(m: Machine, mem: &mut [u32], journal: &mut [u32], channel: u32, byte
     }
     let regs = m.regs;
     let p = links::give(plan::begin(regs), mem, channel as usize, byte as u32);
-    settle::settle(m, p, 0, mem, journal)
+    settling::settle(m, p, 0, mem, journal)
 }
 
 // The event pin is raised.
@@ -112,7 +110,7 @@ pub fn event(m: Machine, mem: &mut [u32], journal: &mut [u32]) -> Reply
     }
     let regs = m.regs;
     let p = links::event(plan::begin(regs));
-    settle::settle(m, p, 0, mem, journal)
+    settling::settle(m, p, 0, mem, journal)
 }
 
 // The last accepted call is taken back.

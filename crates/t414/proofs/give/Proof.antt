@@ -5,7 +5,7 @@ use lib.ListN.{length}
 use Rattle.rules.specs.Registers.{registers}
 use Rattle.rules.specs.Calls.{give}
 use Rattle.checks.proofs.Refusing.{number-known, stopped, passed, channel-good, input-good}
-use Rattle.t414.proofs.Settling.{ready, give-known}
+use Rattle.settling.proofs.Settling.{ready, give-known}
 use borrow.Author.Needs.{needs}
 use Rattle.t414.proofs.give.Statement.{statement}
 use Rattle.t414.proofs.give.Tie as tie

@@ -1,10 +1,10 @@
 use mathlib.Core.Path.{_∙_}
 use Prim.Native.Nat.{_-_}
 use Rattle.plan.specs.View.{view}
-use Rattle.t414.proofs.Settling.{settled-refused, settled-done}
+use Rattle.settling.proofs.Settling.{settled-refused, settled-done}
 use borrow.Author.Needs.{needs}
-use Rattle.t414.proofs.settle.settle.Statement.{statement}
-use Rattle.t414.proofs.settle.settle.Tie as tie
+use Rattle.settling.proofs.settle.Statement.{statement}
+use Rattle.settling.proofs.settle.Tie as tie
 
 refuse-requires : tie.Need-refuse-requires
 refuse-requires c κs = search needs

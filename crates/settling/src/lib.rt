@@ -1,4 +1,4 @@
-// What a worked-out plan comes to.
+// What a worked-out plan comes to after the checks: a refusal by its number, or a commit; and a step by the engine.
 use checks::refuse;
 use plan::Plan;
 use rules::Machine;
