@@ -2,6 +2,7 @@
 pub mod partword; // xword, cword
 pub mod signed; // signed numbers and OverflowCheck
 
+use errors::set_error_flag;
 use evaluation::result;
 use names::MIN_INT;
 use names::MINUS_ONE;
@@ -12,7 +13,6 @@ use signed::magnitude;
 use signed::overflow_check;
 use signed::quotient;
 use signed::remainder;
-use stack::checks::set_error_flag;
 ghost use mathlib.Core.Path.{_≡_};
 ghost use Rattle.rules.specs.Stack as rules;
 ghost use Rattle.rules.specs.Core as core;

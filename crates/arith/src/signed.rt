@@ -1,7 +1,7 @@
 // Signed numbers: the number p - m is kept as the two natural numbers p and m.
+use errors::set_error_flag;
 use evaluation::with_a;
 use rules::Core;
-use stack::checks::set_error_flag;
 ghost use mathlib.Core.Path.{_≡_};
 ghost use Prim.Native.Nat.{_^_, _<_, _≤_};
 ghost use lib.Signed.{quotZ, remZ};

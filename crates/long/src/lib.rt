@@ -2,13 +2,13 @@
 use arith::signed::biased;
 use arith::signed::overflow_check;
 use arith::signed::word_of;
+use errors::error_if;
+use errors::set_error_flag;
+use logic::goes;
+use logic::halts;
 use names::MINUS_ONE;
 use rules::Attempt;
 use rules::Core;
-use stack::checks::error_if;
-use stack::checks::set_error_flag;
-use stack::logic::goes;
-use stack::logic::halts;
 ghost use mathlib.Core.Path.{_≡_};
 ghost use Prim.Native.Nat.{_/_, _%_, _^_};
 ghost use Rattle.rules.specs.Stack as rules;

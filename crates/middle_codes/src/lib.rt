@@ -14,11 +14,8 @@ pub fn operate_middle(w: Plan, mem: &[u32], code: u32) -> Plan
     match code {
         0x20 => frames::ret(w, mem),
         0x21 => processes::lend(w, mem),
-        0x22 => plan::put_core(
-            w,
-            stack::clocks::ldtimer(plan::core_of(w), plan::system_of(w)),
-        ),
-        0x29 => plan::put_core(w, stack::checks::testerr(plan::core_of(w))),
+        0x22 => plan::put_core(w, clocks::ldtimer(plan::core_of(w), plan::system_of(w))),
+        0x29 => plan::put_core(w, errors::testerr(plan::core_of(w))),
         0x2A => plan::put_core(w, evaluation::testpranal(plan::core_of(w))),
         0x2B => timers::tin(w, mem),
         0x2C => plan::put_core(w, arith::div(plan::core_of(w))),
@@ -26,9 +23,9 @@ pub fn operate_middle(w: Plan, mem: &[u32], code: u32) -> Plan
         0x2F => alternatives::disc(w, mem),
         0x30 => alternatives::diss(w, mem),
         0x31 => plan::put_core(w, long::lmul(plan::core_of(w))),
-        0x32 => plan::put_core(w, stack::logic::bitnot(plan::core_of(w))),
-        0x33 => plan::put_core(w, stack::logic::xor(plan::core_of(w))),
-        0x34 => plan::put_core(w, stack::logic::bcnt(plan::core_of(w))),
+        0x32 => plan::put_core(w, logic::bitnot(plan::core_of(w))),
+        0x33 => plan::put_core(w, logic::xor(plan::core_of(w))),
+        0x34 => plan::put_core(w, logic::bcnt(plan::core_of(w))),
         0x35 => plan::attempted(w, long::lshr(plan::core_of(w))),
         0x36 => plan::attempted(w, long::lshl(plan::core_of(w))),
         0x37 => plan::put_core(w, long::lsum(plan::core_of(w))),
@@ -39,7 +36,7 @@ pub fn operate_middle(w: Plan, mem: &[u32], code: u32) -> Plan
         0x3C => plan::put_core(w, evaluation::gajw(plan::core_of(w))),
         0x3D => data::savel(w, mem),
         0x3E => data::saveh(w, mem),
-        0x3F => plan::put_core(w, stack::logic::wcnt(plan::core_of(w))),
+        0x3F => plan::put_core(w, logic::wcnt(plan::core_of(w))),
         _ => plan::refuse(w, UNLISTED),
     }
 }
