@@ -1,4 +1,5 @@
 // PROC StartNextProcess (000 1.10).
+use marks::set_idle;
 use names::FPTR_REG_HIGH;
 use names::FPTR_REG_LOW;
 use names::GOTO_SNP_BIT;
@@ -11,10 +12,9 @@ use names::WPTR_MASK;
 use plan::Plan;
 use plan::lower;
 use plan::put;
-use switching::marks::set_idle;
-use switching::queues::activate_process;
-use switching::queues::dequeue;
-use switching::saved::restore_registers;
+use queues::activate_process;
+use queues::dequeue;
+use saved::restore_registers;
 ghost use mathlib.Core.Path.{_≡_};
 ghost use Prim.Native.Nat.{_<_};
 ghost use Rattle.plan.specs.View.{view, Room, Grown};

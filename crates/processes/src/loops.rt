@@ -1,5 +1,6 @@
 // Loop end (000 1.11): sums that leave the range wrap before the test, and the time slice stands after both branches (01, One step).
 use crate::slices::time_slice;
+use marks::add_to_c;
 use names::AREG;
 use names::BREG;
 use names::CREG;
@@ -9,7 +10,6 @@ use plan::Plan;
 use plan::put;
 use store::r_index_word;
 use store::w_index_word;
-use switching::marks::add_to_c;
 use words::positive;
 ghost use mathlib.Core.Path.{_≡_};
 ghost use Prim.Native.Nat.{_-_};

@@ -1,4 +1,5 @@
 // PROC Run (000 1.10): a process is started, or put on a list.
+use marks::mask_status;
 use names::BPTR_REG;
 use names::BPTR_REG_LOW;
 use names::FPTR_REG;
@@ -10,10 +11,9 @@ use names::WDESC_REG;
 use names::WPTR_MASK;
 use plan::Plan;
 use plan::put;
-use switching::marks::mask_status;
-use switching::queues::activate_process;
-use switching::queues::enqueue;
-use switching::saved::save_registers;
+use queues::activate_process;
+use queues::enqueue;
+use saved::save_registers;
 use words::level;
 ghost use mathlib.Core.Path.{_≡_};
 ghost use Rattle.plan.specs.View.{view, Room, Grown};
