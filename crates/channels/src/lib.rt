@@ -11,4 +11,3 @@ pub use outputs::outbyte;
 pub use outputs::output;
 pub use outputs::outword;
 pub use requests::handle_channel_request;
-pub use requests::requested;

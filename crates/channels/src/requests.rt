@@ -1,8 +1,7 @@
-// Requests of channels (01, One step), and PROC HandleChannelRequest (000 1.8).
+// PROC HandleChannelRequest (000 1.8). Which channel has a request is asked in the crate asking.
 use loads::word_at;
 use names::CHANNEL_REG;
 use names::ENABLING;
-use names::LINK_CHANS;
 use names::NOT_PROCESS;
 use names::POINTER_S;
 use names::PORT_BASE;
@@ -20,35 +19,10 @@ use store::load_word;
 use store::w_index_word;
 use words::at_word;
 ghost use mathlib.Core.Path.{_≡_};
-ghost use Prim.Native.Nat.{_+_, _<_, _≤_};
+ghost use Prim.Native.Nat.{_<_};
 ghost use Rattle.rules.specs.Registers as registers;
 ghost use Rattle.rules.specs.Channels as rules;
 ghost use Rattle.plan.specs.View.{view, Room, Grown};
-
-// Of the n channels from c on, the lowest with a run or a ready request; 9 where there is none.
-fn request_from(w: Plan, c: usize, n: usize) -> usize
-    requires { ⌜ c + n ≤ registers.linkChans ⌝ }
-    ensures { λ r. ⌜ r ≡ rules.requestFrom c n (view w) ⌝ }
-{
-    let mut at = c;
-    let mut left = n;
-    while 0 < left {
-        let k = CHANNEL_REG + 3 * at;
-        if w.regs[k] & (RUN_REQUEST + READY_REQUEST) == 0 {
-            at += 1;
-            left -= 1;
-        } else {
-            return at;
-        }
-    }
-    LINK_CHANS as usize
-}
-
-pub fn requested(w: Plan) -> usize
-    ensures { λ r. ⌜ r ≡ rules.requested (view w) ⌝ }
-{
-    request_from(w, 0, LINK_CHANS as usize)
-}
 
 // After a reset there is no process to run.
 fn run_content(w: Plan, mem: &[u32], hc: usize, content: u32) -> Plan

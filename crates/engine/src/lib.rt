@@ -1,4 +1,6 @@
-// One step as a plan over registers and memory (01, One step): refusals 6, 7 and 9 to 11. No journal; nothing is written.
+// One step (01, One step): as a plan over registers and memory, with the refusals 6, 7 and 9 to 11, and then settled.
+mod operations; // which function a byte names, and which operation Oreg names
+
 use names::FLAGS_REG;
 use names::HALTED;
 use names::HALTED_FLAG;
@@ -8,11 +10,17 @@ use names::IPTR_REG;
 use names::OREG;
 use names::STATUS_REG;
 use plan::Plan;
+use rules::Machine;
 use rules::REGISTERS;
+use rules::Reply;
 ghost use mathlib.Core.Path.{_≡_};
+ghost use mathlib.Core.Bool.{false};
 ghost use Prim.Native.Nat.{_<_, _≤_};
+ghost use lib.ListN.{length};
 ghost use Rattle.rules.specs.Work.{begin};
 ghost use Rattle.rules.specs.Step as rules;
+ghost use Rattle.rules.specs.Journal.{frameBad};
+ghost use Rattle.rules.specs.Calls.{outcomeOf, settled};
 ghost use Rattle.plan.specs.View.{view, Room, Grown, Ended};
 
 // Iptr grows by one, and Oreg takes the nibble in.
@@ -73,11 +81,9 @@ fn timers_first(w: Plan, mem: &[u32]) -> Plan
     requires { ⌜ Room 12 w × (w .count ≡ 0) ⌝ }
     ensures { λ r. ⌜ (view r ≡ rules.timersFirst (now (mem .entry)) (view w)) × Ended 12 w r ⌝ }
 {
-    if timer_queues::timer_ready(w, 0) {
-        return next::act_on_snp(timers::handle_timer_request(w, mem, 0), mem);
-    }
-    if timer_queues::timer_ready(w, 1) {
-        return next::act_on_snp(timers::handle_timer_request(w, mem, 1), mem);
+    let queue = asking::ready_timer(w);
+    if queue < 2 {
+        return next::act_on_snp(timers::handle_timer_request(w, mem, queue), mem);
     }
     instruction_unless_idle(w, mem)
 }
@@ -87,7 +93,7 @@ fn channels_first(w: Plan, mem: &[u32]) -> Plan
     requires { ⌜ Room 12 w × (w .count ≡ 0) ⌝ }
     ensures { λ r. ⌜ (view r ≡ rules.channelsFirst (now (mem .entry)) (view w)) × Ended 12 w r ⌝ }
 {
-    let c = channels::requested(w);
+    let c = asking::requested(w);
     if c < 9 {
         return next::act_on_snp(channels::handle_channel_request(w, mem, c), mem);
     }
@@ -98,7 +104,7 @@ fn choose(w: Plan, mem: &[u32]) -> Plan
     requires { ⌜ Room 12 w × (w .count ≡ 0) ⌝ }
     ensures { λ r. ⌜ (view r ≡ rules.choose (now (mem .entry)) (view w)) × Ended 12 w r ⌝ }
 {
-    if w.regs[OREG] == 0 {
+    if asking::between(w) {
         return channels_first(w, mem);
     }
     instruction_unless_idle(w, mem)
@@ -112,4 +118,14 @@ pub fn step(regs: [u32; REGISTERS], mem: &[u32]) -> Plan
         return halting::halt_on_error(choose(plan::begin(regs), mem), regs[STATUS_REG]);
     }
     plan::refuse(plan::begin(regs), HALTED)
+}
+
+// The step as a call, after its checks: worked out, then settled.
+pub fn planned(m: Machine, mem: &mut [u32], journal: &mut [u32]) -> Reply
+    requires { ⌜ (length (now mem) ≤ 16384) × (length (now journal) ≤ 65536) × (frameBad (length (now journal)) (m .depth) (m .used) ≡ false) ⌝ }
+    ensures { λ r. ⌜ outcomeOf r (now (mem .exit)) (now (journal .exit)) ≡ settled m (now (mem .entry)) (now (journal .entry)) 0 (rules.step (now (mem .entry)) (begin (m .regs))) ⌝ }
+{
+    let regs = m.regs;
+    let p = step(regs, mem);
+    settling::settle(m, p, 0, mem, journal)
 }

@@ -1,4 +1,4 @@
-// What a worked-out plan comes to after the checks: a refusal by its number, or a commit; and a step by the engine.
+// What a worked-out plan comes to after the checks: a refusal by its number, or a commit.
 use checks::refuse;
 use plan::Plan;
 use rules::Machine;
@@ -7,8 +7,6 @@ ghost use mathlib.Core.Path.{_≡_};
 ghost use mathlib.Core.Bool.{false};
 ghost use Prim.Native.Nat.{_≤_};
 ghost use lib.ListN.{length};
-ghost use Rattle.rules.specs.Work.{begin};
-ghost use Rattle.rules.specs.Step as steps;
 ghost use Rattle.rules.specs.Journal.{frameBad};
 ghost use Rattle.rules.specs.Calls.{outcomeOf, settled};
 ghost use Rattle.plan.specs.View.{view};
@@ -22,14 +20,4 @@ pub fn settle(m: Machine, p: Plan, byte: u8, mem: &mut [u32], journal: &mut [u32
         return refuse(m, p.answer);
     }
     journal::commit(m, p, byte, mem, journal)
-}
-
-// A step by the engine.
-pub fn planned(m: Machine, mem: &mut [u32], journal: &mut [u32]) -> Reply
-    requires { ⌜ (length (now mem) ≤ 16384) × (length (now journal) ≤ 65536) × (frameBad (length (now journal)) (m .depth) (m .used) ≡ false) ⌝ }
-    ensures { λ r. ⌜ outcomeOf r (now (mem .exit)) (now (journal .exit)) ≡ settled m (now (mem .entry)) (now (journal .entry)) 0 (steps.step (now (mem .entry)) (begin (m .regs))) ⌝ }
-{
-    let regs = m.regs;
-    let p = engine::step(regs, mem);
-    settle(m, p, 0, mem, journal)
 }

@@ -41,9 +41,9 @@ pub fn step(m: Machine, mem: &mut [u32], journal: &mut [u32]) -> Reply
         if common {
             return brief::commit_common(m, t, mem, journal);
         }
-        return settling::planned(m, mem, journal);
+        return engine::planned(m, mem, journal);
     }
-    settling::planned(m, mem, journal)
+    engine::planned(m, mem, journal)
 }
 
 // The clocks go on by one.

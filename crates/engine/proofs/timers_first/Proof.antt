@@ -1,10 +1,33 @@
 use borrow.Author.Needs.{needs}
+use mathlib.Core.Path.{_≡_, refl}
+use mathlib.Core.Bool.{Bool, true, false}
+use mathlib.Core.List.{List}
+use Prim.Native.Nat.{ℕ}
+use Rattle.rules.specs.Tests.{pick, ifLt}
+use Rattle.rules.proofs.Tests.{yes-lt, no-lt}
+use Rattle.rules.specs.Work.{Work}
+use Rattle.rules.specs.Scheduling.{actOnSNP}
+use Rattle.rules.specs.Timers.{timerReady, handleTimerRequest}
 use Rattle.rules.specs.Step as steps
+use Rattle.asking.specs.Timer.{firstReady}
 use Rattle.engine.proofs.timers_first.Statement.{statement}
 use Rattle.engine.proofs.timers_first.Tie as tie
 
-timer-ready-requires : tie.Need-timer-ready-requires
-timer-ready-requires c κs = search needs
+-- to serve the one of two that is ready is to serve the first that is ready
+by-number : {A : Type 0} (b0 b1 : Bool) (f : ℕ → A) (z : A) →
+    pick b0 (f 0) (pick b1 (f 1) z) ≡ ifLt (pick b0 0 (pick b1 1 2)) 2 (f (pick b0 0 (pick b1 1 2))) z
+unfolding ifLt
+by-number true b1 f z = refl
+by-number false true f z = refl
+by-number false false f z = refl
+
+module _ (m : List ℕ) (w : Work) where
+  by-first : steps.timersFirst m w ≡ ifLt (firstReady w) 2 (actOnSNP m (handleTimerRequest m (firstReady w) w)) (steps.instructionUnlessIdle m w)
+  unfolding steps.timersFirst firstReady
+  by-first = by-number (timerReady 0 w) (timerReady 1 w) (λ k. actOnSNP m (handleTimerRequest m k w)) (steps.instructionUnlessIdle m w)
+
+ready-timer-requires : tie.Need-ready-timer-requires
+ready-timer-requires c κs = search needs
 
 handle-timer-request-requires : tie.Need-handle-timer-request-requires
 handle-timer-request-requires c κs = search needs
@@ -13,28 +36,13 @@ act-on-snp-requires : tie.Need-act-on-snp-requires
 act-on-snp-requires c κs = search needs
 
 returns : tie.Need-returns
-unfolding steps.timersFirst
-returns c = (rw (← c .before .before .before .timer-ready .ensures, c .before .before .if1 .taken, ← c .before .handle-timer-request .ensures .0) (c .act-on-snp .ensures .0), search needs)
-
-timer-ready-requires-2 : tie.Need-timer-ready-requires-2
-timer-ready-requires-2 c κs = search needs
-
-handle-timer-request-requires-2 : tie.Need-handle-timer-request-requires-2
-handle-timer-request-requires-2 c κs = search needs
-
-act-on-snp-requires-2 : tie.Need-act-on-snp-requires-2
-act-on-snp-requires-2 c κs = search needs
-
-returns-2 : tie.Need-returns-2
-unfolding steps.timersFirst
-returns-2 c = (rw (← c .before .before .before .before .before .timer-ready .ensures, c .before .before .before .before .if1 .left, ← c .before .before .before .timer-ready2 .ensures, c .before .before .if2 .taken, ← c .before .handle-timer-request2 .ensures .0) (c .act-on-snp2 .ensures .0), search needs)
+returns c = (rw (by-first _ _, ← c .before .before .before .ready-timer .ensures, yes-lt (c .before .before .if1 .taken), ← c .before .handle-timer-request .ensures .0) (c .act-on-snp .ensures .0), search needs)
 
 instruction-unless-idle-requires : tie.Need-instruction-unless-idle-requires
 instruction-unless-idle-requires c κs = search needs
 
-returns-3 : tie.Need-returns-3
-unfolding steps.timersFirst
-returns-3 c = (rw (← c .before .before .before .before .timer-ready .ensures, c .before .before .before .if1 .left, ← c .before .before .timer-ready2 .ensures, c .before .if2 .left) (c .instruction-unless-idle .ensures .0), search needs)
+returns-2 : tie.Need-returns-2
+returns-2 c = (rw (by-first _ _, ← c .before .before .ready-timer .ensures, no-lt (c .before .if1 .left)) (c .instruction-unless-idle .ensures .0), search needs)
 
 pub timers-first-spec : {M : Type 1} → statement M
-timers-first-spec = tie.close (tie.spec timer-ready-requires handle-timer-request-requires act-on-snp-requires returns timer-ready-requires-2 handle-timer-request-requires-2 act-on-snp-requires-2 returns-2 instruction-unless-idle-requires returns-3)
+timers-first-spec = tie.close (tie.spec ready-timer-requires handle-timer-request-requires act-on-snp-requires returns instruction-unless-idle-requires returns-2)

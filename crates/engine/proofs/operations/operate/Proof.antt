@@ -1,6 +1,6 @@
 use borrow.Author.Needs.{needs}
-use Rattle.operations.proofs.operate.Statement.{statement}
-use Rattle.operations.proofs.operate.Tie as tie
+use Rattle.engine.proofs.operations.operate.Statement.{statement}
+use Rattle.engine.proofs.operations.operate.Tie as tie
 
 operate-low-requires : tie.Need-operate-low-requires
 operate-low-requires c κs = search needs

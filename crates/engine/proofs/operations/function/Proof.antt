@@ -1,8 +1,8 @@
 use borrow.Author.Needs.{needs}
 use Rattle.rules.specs.Operations as tables
 use Rattle.tables.proofs.Tables.{unlisted-function}
-use Rattle.operations.proofs.function.Statement.{statement}
-use Rattle.operations.proofs.function.Tie as tie
+use Rattle.engine.proofs.operations.function.Statement.{statement}
+use Rattle.engine.proofs.operations.function.Tie as tie
 
 j-requires : tie.Need-j-requires
 j-requires c κs = search needs

@@ -2,10 +2,10 @@ use native.Mathlib.Omega.{arith}
 use mathlib.Core.Path.{_≡_, sym, _∙_}
 use lib.ListN.{length}
 use Rattle.rules.specs.Registers.{registers}
 use Rattle.settling.proofs.Settling.{step-known}
 use borrow.Author.Needs.{needs}
-use Rattle.settling.proofs.planned.Statement.{statement}
-use Rattle.settling.proofs.planned.Tie as tie
+use Rattle.engine.proofs.planned.Statement.{statement}
+use Rattle.engine.proofs.planned.Tie as tie
 
 long : (c : tie.Start) → length (c .args .m .regs) ≡ registers
 long c = search needs

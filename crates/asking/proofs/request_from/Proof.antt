@@ -4,9 +4,9 @@ use Rattle.rules.specs.Channels.{requestFrom}
 use Prim.Native.Nat.{_+_, _-_, _≤_}
 use mathlib.Core.Path.{_≡_, refl, sym, _∙_}
 use Rattle.plan.specs.View.{view}
-use Rattle.channels.proofs.Lowest.{search-ends, found-here, not-here}
-use Rattle.channels.proofs.requests.request_from.Statement.{statement}
-use Rattle.channels.proofs.requests.request_from.Tie as tie
+use Rattle.asking.proofs.Lowest.{search-ends, found-here, not-here}
+use Rattle.asking.proofs.request_from.Statement.{statement}
+use Rattle.asking.proofs.request_from.Tie as tie
 
 abbrev Inv-loop : tie.InvT-loop
 Inv-loop c n w at₀ left₀ at left = (requestFrom c n (view w) ≡ requestFrom at left (view w)) × (at + left ≤ 9)

@@ -1,7 +1,7 @@
 use borrow.Author.Needs.{needs}
 use Rattle.rules.specs.Channels.{requested}
-use Rattle.channels.proofs.requests.requested.Statement.{statement}
-use Rattle.channels.proofs.requests.requested.Tie as tie
+use Rattle.asking.proofs.requested.Statement.{statement}
+use Rattle.asking.proofs.requested.Tie as tie
 
 cast-request-from : tie.Need-cast-request-from
 cast-request-from c = search needs
