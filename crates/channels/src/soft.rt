@@ -1,4 +1,5 @@
 // What input and output on soft channels share (000 1.10): the wait for a partner, and the message to or from one.
+use block::transfer;
 use data::move_done;
 use names::AREG;
 use names::BREG;
@@ -10,7 +11,6 @@ use plan::Plan;
 use plan::goto_snp;
 use schedule::run;
 use schedule::save_iptr;
-use store::transfer;
 use store::w_index_word;
 ghost use mathlib.Core.Path.{_≡_};
 ghost use Rattle.rules.specs.Channels as rules;

@@ -63,7 +63,7 @@ fn instruction(w: Plan, mem: &[u32]) -> Plan
 {
     let a = w.regs[IPTR_REG];
     let b = loads::byte_at(w, mem, a);
-    decode(fetched(store::fetch_byte(w, mem, a), b), mem, b >> 4)
+    decode(fetched(access::fetch_byte(w, mem, a), b), mem, b >> 4)
 }
 
 fn instruction_unless_idle(w: Plan, mem: &[u32]) -> Plan

@@ -1,21 +1,14 @@
-// The accesses of a plan (000 1.5): fetches, loads, stores and the block move, each refused outside memory. Memory is only read; a store is
-// added to the plan.
-mod block;
-
-use block::append_move;
-use block::move_outside;
+// The loads and stores of a plan (000 1.5), each refused outside memory. Memory is only read; a store is added to the plan. A fetch is in the
+// crate access, the block move in block.
+use access::access;
 use loads::byte_at;
 use loads::word_at;
-use names::KIND_FETCH;
 use names::KIND_LOAD;
 use names::KIND_STORE;
-use names::OUTSIDE;
 use plan::Plan;
 use plan::put;
-use plan::refuse_at;
 use words::at_word;
 use words::index_of;
-use words::offset;
 use words::selector;
 use words::with_byte;
 ghost use mathlib.Core.Path.{_≡_};
@@ -23,25 +16,7 @@ ghost use Prim.Native.Nat.{_<_};
 ghost use Rattle.rules.specs.Memory.{word};
 ghost use Rattle.rules.specs.Work as rules;
 ghost use Rattle.rules.specs.Registers as registers;
-ghost use Rattle.plan.specs.View.{view, Room, Grown, Ended};
-
-// ---- the five accesses
-
-// An access of a kind at an address: refused outside memory.
-pub fn access(w: Plan, mem: &[u32], kind: u32, a: u32) -> Plan
-    ensures { λ r. ⌜ (view r ≡ rules.access (now (mem .entry)) kind a (view w)) × Grown 0 w r ⌝ }
-{
-    if (index_of(a) as usize) < mem.len() {
-        return w;
-    }
-    refuse_at(w, OUTSIDE, kind, a)
-}
-
-pub fn fetch_byte(w: Plan, mem: &[u32], a: u32) -> Plan
-    ensures { λ r. ⌜ (view r ≡ rules.fetchByte (now (mem .entry)) a (view w)) × Grown 0 w r ⌝ }
-{
-    access(w, mem, KIND_FETCH, a)
-}
+ghost use Rattle.plan.specs.View.{view, Room, Grown};
 
 pub fn load_word(w: Plan, mem: &[u32], a: u32) -> Plan
     ensures { λ r. ⌜ (view r ≡ rules.loadWord (now (mem .entry)) a (view w)) × Grown 0 w r ⌝ }
@@ -112,21 +87,4 @@ pub fn w_index_word(w: Plan, mem: &[u32], base: u32, n: u32, v: u32) -> Plan
     ensures { λ r. ⌜ (view r ≡ rules.wIndexWord (now (mem .entry)) base n v (view w)) × Grown 1 w r ⌝ }
 {
     store_word(w, mem, at_word(base, n), v)
-}
-
-// ---- the block move
-
-// All bytes of a move, or the refusal of its first access outside memory; count 0 moves nothing.
-pub fn transfer(w: Plan, mem: &[u32], source: u32, destination: u32, n: u32) -> Plan
-    requires { ⌜ Room 0 w × (w .count ≡ 0) ⌝ }
-    ensures { λ r. ⌜ (view r ≡ rules.transfer (now (mem .entry)) source destination n (view w)) × Ended 0 w r ⌝ }
-{
-    if n == 0 {
-        return w;
-    }
-    let first = move_outside(mem, source, destination, n);
-    if first.kind == 0 {
-        return append_move(w, offset(source), offset(destination), n);
-    }
-    refuse_at(w, OUTSIDE, first.kind, first.address)
 }

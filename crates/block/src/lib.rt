@@ -1,7 +1,9 @@
-// The block move: where it first leaves memory, and its place in the plan.
+// The block move (000 1.10) in one step (01, One step): where it first leaves memory, and its place in the plan, or its refusal.
 use names::KIND_LOAD;
 use names::KIND_STORE;
+use names::OUTSIDE;
 use plan::Plan;
+use plan::refuse_at;
 use words::at_byte;
 use words::offset;
 ghost use mathlib.Core.Path.{_≡_};
@@ -77,4 +79,19 @@ pub fn append_move(w: Plan, s: u32, d: u32, n: u32) -> Plan
         return t;
     }
     w
+}
+
+// All bytes of a move, or the refusal of its first access outside memory; count 0 moves nothing.
+pub fn transfer(w: Plan, mem: &[u32], source: u32, destination: u32, n: u32) -> Plan
+    requires { ⌜ Room 0 w × (w .count ≡ 0) ⌝ }
+    ensures { λ r. ⌜ (view r ≡ rules.transfer (now (mem .entry)) source destination n (view w)) × Ended 0 w r ⌝ }
+{
+    if n == 0 {
+        return w;
+    }
+    let first = move_outside(mem, source, destination, n);
+    if first.kind == 0 {
+        return append_move(w, offset(source), offset(destination), n);
+    }
+    refuse_at(w, OUTSIDE, first.kind, first.address)
 }

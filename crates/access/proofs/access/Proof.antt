@@ -1,8 +1,8 @@
 use Rattle.rules.proofs.Tests.{yes-lt, no-lt}
 use Rattle.rules.specs.Work.{access}
 use borrow.Author.Needs.{needs}
-use Rattle.store.proofs.access.Statement.{statement}
-use Rattle.store.proofs.access.Tie as tie
+use Rattle.access.proofs.access.Statement.{statement}
+use Rattle.access.proofs.access.Tie as tie
 
 index-of-requires : tie.Need-index-of-requires
 index-of-requires c κs = search needs

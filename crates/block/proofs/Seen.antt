@@ -14,7 +14,7 @@ use Rattle.plan.specs.View.{moves}
 use Rattle.loads.specs.Places.{cameFrom}
 use Rattle.loads.proofs.Moved.{came-byte}
 use Rattle.loads.proofs.Stored.{stores-length, stores-append, read-here, move-inside}
-use Rattle.store.proofs.Reached.{reach-is, outside-none}
+use Rattle.block.proofs.Reached.{reach-is, outside-none}
 
 -- a byte at an address is one of memory after the stores, at its place
 byte-at-in : (m : List ℕ) (a : ℕ) (w : Work) → byteAt m a w ≡ byteIn (stores m (w .stored)) (offset a)

@@ -1,10 +1,10 @@
 use native.Mathlib.Omega.{arith}
 use mathlib.Core.Path.{sym}
 use lib.ListN.{length}
-use Rattle.store.proofs.Reached.{reach-is, reach-all}
+use Rattle.block.proofs.Reached.{reach-is, reach-all}
 use borrow.Author.Needs.{needs}
-use Rattle.store.proofs.block.reach.Statement.{statement}
-use Rattle.store.proofs.block.reach.Tie as tie
+use Rattle.block.proofs.reach.Statement.{statement}
+use Rattle.block.proofs.reach.Tie as tie
 
 returns : tie.Need-returns
 returns c =

@@ -2,8 +2,8 @@ use borrow.Author.Needs.{needs}
 use Rattle.rules.proofs.Tests.{yes-eq, no-eq}
 use Rattle.rules.specs.Work.{append}
 use Rattle.loads.proofs.Logged.{logged-move, logged-plain}
-use Rattle.store.proofs.block.append_move.Statement.{statement}
-use Rattle.store.proofs.block.append_move.Tie as tie
+use Rattle.block.proofs.append_move.Statement.{statement}
+use Rattle.block.proofs.append_move.Tie as tie
 
 returns : tie.Need-returns
 unfolding append

@@ -2,10 +2,10 @@ use native.Mathlib.Omega.{arith}
 use mathlib.Core.Path.{sym, ap}
 use Prim.Native.Nat.{ℕ}
 use lib.ListN.{length}
-use Rattle.store.proofs.Reached.{reach-le, outside-none, outside-load, outside-store}
+use Rattle.block.proofs.Reached.{reach-le, outside-none, outside-load, outside-store}
 use borrow.Author.Needs.{needs}
-use Rattle.store.proofs.block.move_outside.Statement.{statement}
-use Rattle.store.proofs.block.move_outside.Tie as tie
+use Rattle.block.proofs.move_outside.Statement.{statement}
+use Rattle.block.proofs.move_outside.Tie as tie
 
 reach-requires : tie.Need-reach-requires
 reach-requires c κs = search needs

@@ -1,8 +1,8 @@
 use Rattle.rules.proofs.Tests.{yes-eq, no-eq}
 use Rattle.rules.specs.Work.{transfer, settleMove}
 use borrow.Author.Needs.{needs}
-use Rattle.store.proofs.transfer.Statement.{statement}
-use Rattle.store.proofs.transfer.Tie as tie
+use Rattle.block.proofs.transfer.Statement.{statement}
+use Rattle.block.proofs.transfer.Tie as tie
 
 returns : tie.Need-returns
 unfolding transfer

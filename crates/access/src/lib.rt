@@ -1,0 +1,25 @@
+// An access of a plan (000 1.5) and a fetch: refused outside memory. Memory is only read.
+use names::KIND_FETCH;
+use names::OUTSIDE;
+use plan::Plan;
+use plan::refuse_at;
+use words::index_of;
+ghost use mathlib.Core.Path.{_≡_};
+ghost use Rattle.rules.specs.Work as rules;
+ghost use Rattle.plan.specs.View.{view, Grown};
+
+// An access of a kind at an address: refused outside memory.
+pub fn access(w: Plan, mem: &[u32], kind: u32, a: u32) -> Plan
+    ensures { λ r. ⌜ (view r ≡ rules.access (now (mem .entry)) kind a (view w)) × Grown 0 w r ⌝ }
+{
+    if (index_of(a) as usize) < mem.len() {
+        return w;
+    }
+    refuse_at(w, OUTSIDE, kind, a)
+}
+
+pub fn fetch_byte(w: Plan, mem: &[u32], a: u32) -> Plan
+    ensures { λ r. ⌜ (view r ≡ rules.fetchByte (now (mem .entry)) a (view w)) × Grown 0 w r ⌝ }
+{
+    access(w, mem, KIND_FETCH, a)
+}
