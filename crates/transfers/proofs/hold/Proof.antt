@@ -1,7 +1,7 @@
 use borrow.Author.Needs.{needs}
 use Rattle.rules.specs.Links.{hold}
-use Rattle.links.proofs.hold.Statement.{statement}
-use Rattle.links.proofs.hold.Tie as tie
+use Rattle.transfers.proofs.hold.Statement.{statement}
+use Rattle.transfers.proofs.hold.Tie as tie
 
 mul-k : tie.Need-mul-k
 mul-k c = search needs

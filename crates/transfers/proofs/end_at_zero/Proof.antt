@@ -1,8 +1,8 @@
 use borrow.Author.Needs.{needs}
 use Rattle.rules.proofs.Tests.{yes-eq, no-eq}
 use Rattle.rules.specs.Links.{endAtZero}
-use Rattle.links.proofs.end_at_zero.Statement.{statement}
-use Rattle.links.proofs.end_at_zero.Tie as tie
+use Rattle.transfers.proofs.end_at_zero.Statement.{statement}
+use Rattle.transfers.proofs.end_at_zero.Tie as tie
 
 mul-k : tie.Need-mul-k
 mul-k c = search needs

@@ -1,7 +1,7 @@
 use borrow.Author.Needs.{needs}
 use Rattle.rules.specs.Links.{transferEnds}
-use Rattle.links.proofs.transfer_ends.Statement.{statement}
-use Rattle.links.proofs.transfer_ends.Tie as tie
+use Rattle.transfers.proofs.transfer_ends.Statement.{statement}
+use Rattle.transfers.proofs.transfer_ends.Tie as tie
 
 mul-k : tie.Need-mul-k
 mul-k c = search needs

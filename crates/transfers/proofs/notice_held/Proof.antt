@@ -1,8 +1,8 @@
 use borrow.Author.Needs.{needs}
 use Rattle.rules.proofs.Tests.{yes-eq, no-eq}
 use Rattle.rules.specs.Links.{noticeHeld}
-use Rattle.links.proofs.notice_held.Statement.{statement}
-use Rattle.links.proofs.notice_held.Tie as tie
+use Rattle.transfers.proofs.notice_held.Statement.{statement}
+use Rattle.transfers.proofs.notice_held.Tie as tie
 
 mul-k : tie.Need-mul-k
 mul-k c = search needs

@@ -1,7 +1,7 @@
 use borrow.Author.Needs.{needs}
 use Rattle.rules.specs.Links.{advance}
-use Rattle.links.proofs.advance.Statement.{statement}
-use Rattle.links.proofs.advance.Tie as tie
+use Rattle.transfers.proofs.advance.Statement.{statement}
+use Rattle.transfers.proofs.advance.Tie as tie
 
 mul-p : tie.Need-mul-p
 mul-p c = search needs

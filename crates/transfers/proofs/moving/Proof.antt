@@ -1,7 +1,7 @@
 use borrow.Author.Needs.{needs}
 use Rattle.rules.proofs.Tests.{yes-eq, no-eq}
-use Rattle.links.proofs.moving.Statement.{statement}
-use Rattle.links.proofs.moving.Tie as tie
+use Rattle.transfers.proofs.moving.Statement.{statement}
+use Rattle.transfers.proofs.moving.Tie as tie
 
 mul-k : tie.Need-mul-k
 mul-k c = search needs
