@@ -1,6 +1,5 @@
 // What input and output on soft channels share (000 1.10): the wait for a partner, and the message to or from one.
 use block::transfer;
-use data::move_done;
 use names::AREG;
 use names::BREG;
 use names::CREG;
@@ -9,6 +8,7 @@ use names::WDESC_REG;
 use names::WPTR_MASK;
 use plan::Plan;
 use plan::goto_snp;
+use plan_stack::move_done;
 use schedule::run;
 use schedule::save_iptr;
 use store::w_index_word;

@@ -1,10 +1,10 @@
 // The block move in one step (01, One step).
-use crate::stack::move_done;
 use block::transfer;
 use names::AREG;
 use names::BREG;
 use names::CREG;
 use plan::Plan;
+use plan_stack::move_done;
 ghost use mathlib.Core.Path.{_≡_};
 ghost use Rattle.plan.specs.View.{view, Room, Ended};
 ghost use Rattle.rules.specs.Data as rules;

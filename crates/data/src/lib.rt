@@ -1,6 +1,5 @@
 // The functions and operations that load and store and do not schedule (000 1.11), on a plan, one function for each definition of
 // rules/specs/Data.antt.
-pub mod stack; // what the evaluation stack and the pointers do
 pub mod locals; // ldl, stl, ldnl, stnl
 pub mod bytes; // lb, sb
 pub mod blocks; // move
@@ -15,8 +14,3 @@ pub use locals::stl;
 pub use locals::stnl;
 pub use queues::saveh;
 pub use queues::savel;
-pub use stack::adjusted;
-pub use stack::jump_by;
-pub use stack::move_done;
-pub use stack::popped;
-pub use stack::pushed;

@@ -1,6 +1,4 @@
 // Words loaded and stored by the operand, from Wptr or from Areg.
-use crate::stack::popped;
-use crate::stack::pushed;
 use names::AREG;
 use names::BREG;
 use names::CREG;
@@ -9,6 +7,8 @@ use names::WDESC_REG;
 use names::WPTR_MASK;
 use plan::Plan;
 use plan::put;
+use plan_stack::popped;
+use plan_stack::pushed;
 use store::r_index_word;
 use store::w_index_word;
 ghost use mathlib.Core.Path.{_≡_};

@@ -1,9 +1,9 @@
 // The queue pointers of a level go to memory.
-use crate::stack::popped;
 use names::AREG;
 use names::BPTR_REG;
 use names::FPTR_REG;
 use plan::Plan;
+use plan_stack::popped;
 use store::w_index_word;
 ghost use Prim.Native.Nat.{_<_};
 ghost use mathlib.Core.Path.{_≡_};

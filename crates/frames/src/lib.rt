@@ -1,6 +1,4 @@
 // Procedures are called and left, and an alternative is entered.
-use data::adjusted;
-use data::jump_by;
 use loads::word_at;
 use names::AREG;
 use names::BREG;
@@ -11,6 +9,8 @@ use names::WDESC_REG;
 use names::WPTR_MASK;
 use plan::Plan;
 use plan::put;
+use plan_stack::adjusted;
+use plan_stack::jump_by;
 use store::load_word;
 use store::r_index_word;
 use store::w_index_word;

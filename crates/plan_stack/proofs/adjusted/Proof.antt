@@ -1,7 +1,7 @@
 use borrow.Author.Needs.{needs}
 use Rattle.rules.specs.Data.{adjusted}
-use Rattle.data.proofs.stack.adjusted.Statement.{statement}
-use Rattle.data.proofs.stack.adjusted.Tie as tie
+use Rattle.plan_stack.proofs.adjusted.Statement.{statement}
+use Rattle.plan_stack.proofs.adjusted.Tie as tie
 
 element-copy-out-at-word : tie.Need-element-copy-out-at-word
 element-copy-out-at-word c = search needs

@@ -1,4 +1,5 @@
-// What these operations do to the evaluation stack and to the two pointers, in registers alone.
+// What the operations that load and store do to the evaluation stack and to the two pointers of a plan, in registers alone. Each function is
+// the code of a definition of rules/specs/Data.antt.
 use names::AREG;
 use names::BREG;
 use names::CREG;

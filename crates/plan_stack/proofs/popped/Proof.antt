@@ -1,7 +1,7 @@
 use borrow.Author.Needs.{needs}
 use Rattle.rules.specs.Data.{popped}
-use Rattle.data.proofs.stack.popped.Statement.{statement}
-use Rattle.data.proofs.stack.popped.Tie as tie
+use Rattle.plan_stack.proofs.popped.Statement.{statement}
+use Rattle.plan_stack.proofs.popped.Tie as tie
 
 element-copy-out-c : tie.Need-element-copy-out-c
 element-copy-out-c c = search needs

@@ -1,7 +1,7 @@
 use borrow.Author.Needs.{needs}
 use Rattle.rules.specs.Data.{moveDone}
-use Rattle.data.proofs.stack.move_done.Statement.{statement}
-use Rattle.data.proofs.stack.move_done.Tie as tie
+use Rattle.plan_stack.proofs.move_done.Statement.{statement}
+use Rattle.plan_stack.proofs.move_done.Tie as tie
 
 element-copy-out-at-byte : tie.Need-element-copy-out-at-byte
 element-copy-out-at-byte c = search needs

@@ -1,7 +1,7 @@
 use borrow.Author.Needs.{needs}
 use Rattle.rules.specs.Data.{pushed}
-use Rattle.data.proofs.stack.pushed.Statement.{statement}
-use Rattle.data.proofs.stack.pushed.Tie as tie
+use Rattle.plan_stack.proofs.pushed.Statement.{statement}
+use Rattle.plan_stack.proofs.pushed.Tie as tie
 
 element-copy-out-a : tie.Need-element-copy-out-a
 element-copy-out-a c = search needs

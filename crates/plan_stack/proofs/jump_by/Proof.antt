@@ -1,7 +1,7 @@
 use borrow.Author.Needs.{needs}
 use Rattle.rules.specs.Data.{jumpBy}
-use Rattle.data.proofs.stack.jump_by.Statement.{statement}
-use Rattle.data.proofs.stack.jump_by.Tie as tie
+use Rattle.plan_stack.proofs.jump_by.Statement.{statement}
+use Rattle.plan_stack.proofs.jump_by.Tie as tie
 
 element-copy-out-at-byte : tie.Need-element-copy-out-at-byte
 element-copy-out-at-byte c = search needs
