@@ -1,6 +1,5 @@
 // Arithmetic of one word (000 1.11), on the seven registers of rules::Core.
 pub mod partword; // xword, cword
-pub mod signed; // signed numbers and OverflowCheck
 
 use errors::set_error_flag;
 use evaluation::result;

@@ -1,10 +1,10 @@
 // Numbers of less than a word: A unsigned, B signed.
-use crate::signed::biased;
-use crate::signed::word_of;
 use errors::error_if;
 use evaluation::pop;
 use evaluation::result;
 use rules::Core;
+use signed::biased;
+use signed::word_of;
 ghost use mathlib.Core.Path.{_≡_};
 ghost use Rattle.rules.specs.Stack as rules;
 

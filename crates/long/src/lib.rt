@@ -1,7 +1,4 @@
 // Arithmetic of two words: operations that touch no memory, on the seven registers by value. Each is the code of the definition of its name.
-use arith::signed::biased;
-use arith::signed::overflow_check;
-use arith::signed::word_of;
 use errors::error_if;
 use errors::set_error_flag;
 use logic::goes;
@@ -9,6 +6,9 @@ use logic::halts;
 use names::MINUS_ONE;
 use rules::Attempt;
 use rules::Core;
+use signed::biased;
+use signed::overflow_check;
+use signed::word_of;
 ghost use mathlib.Core.Path.{_≡_};
 ghost use Prim.Native.Nat.{_/_, _%_, _^_};
 ghost use Rattle.rules.specs.Stack as rules;

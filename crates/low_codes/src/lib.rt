@@ -15,7 +15,7 @@ pub fn operate_low(w: Plan, mem: &[u32], code: u32) -> Plan
         0x00 => plan::put_core(w, evaluation::rev(plan::core_of(w))),
         0x01 => data::lb(w, mem),
         0x02 => plan::put_core(w, logic::bsub(plan::core_of(w))),
-        0x03 => processes::endp(w, mem),
+        0x03 => ending::endp(w, mem),
         0x04 => plan::put_core(w, arith::diff(plan::core_of(w))),
         0x05 => plan::put_core(w, arith::add(plan::core_of(w))),
         0x06 => plan::put_core(w, evaluation::gcall(plan::core_of(w))),

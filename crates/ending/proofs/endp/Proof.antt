@@ -1,7 +1,7 @@
 use borrow.Author.Needs.{needs}
 use Rattle.rules.specs.Scheduling.{endp}
-use Rattle.processes.proofs.processes.endp.Statement.{statement}
-use Rattle.processes.proofs.processes.endp.Tie as tie
+use Rattle.ending.proofs.endp.Statement.{statement}
+use Rattle.ending.proofs.endp.Tie as tie
 
 element-copy-out-at-word : tie.Need-element-copy-out-at-word
 element-copy-out-at-word c = search needs

@@ -1,4 +1,4 @@
-// Signed numbers: the number p - m is kept as the two natural numbers p and m.
+// Signed numbers and OverflowCheck (000 1.1, 1.2): the number p - m is kept as the two natural numbers p and m.
 use errors::set_error_flag;
 use evaluation::with_a;
 use rules::Core;

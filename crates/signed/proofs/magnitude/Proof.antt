@@ -2,8 +2,8 @@ use native.Mathlib.Omega.{arith}
 use Rattle.words.specs.Net.{magnitude}
 use Rattle.rules.proofs.Tests.{by-lt}
 use borrow.Author.Needs.{needs}
-use Rattle.arith.proofs.signed.magnitude.Statement.{statement}
-use Rattle.arith.proofs.signed.magnitude.Tie as tie
+use Rattle.signed.proofs.magnitude.Statement.{statement}
+use Rattle.signed.proofs.magnitude.Tie as tie
 
 add-result : tie.Need-add-result
 add-result c = search needs

@@ -1,7 +1,7 @@
 use borrow.Author.Needs.{needs}
 use Rattle.rules.specs.Scheduling.{endOne}
-use Rattle.processes.proofs.processes.end_one.Statement.{statement}
-use Rattle.processes.proofs.processes.end_one.Tie as tie
+use Rattle.ending.proofs.end_one.Statement.{statement}
+use Rattle.ending.proofs.end_one.Tie as tie
 
 at-byte-requires : tie.Need-at-byte-requires
 at-byte-requires c κs = search needs

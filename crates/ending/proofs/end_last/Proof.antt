@@ -1,7 +1,7 @@
 use borrow.Author.Needs.{needs}
 use Rattle.rules.specs.Scheduling.{endLast}
-use Rattle.processes.proofs.processes.end_last.Statement.{statement}
-use Rattle.processes.proofs.processes.end_last.Tie as tie
+use Rattle.ending.proofs.end_last.Statement.{statement}
+use Rattle.ending.proofs.end_last.Tie as tie
 
 element-copy-out-wdesc : tie.Need-element-copy-out-wdesc
 element-copy-out-wdesc c = search needs

@@ -1,8 +1,8 @@
 use borrow.Author.Needs.{needs}
 use Rattle.rules.proofs.Tests.{yes-eq, no-eq}
 use Rattle.rules.specs.Scheduling.{endCounted}
-use Rattle.processes.proofs.processes.end_counted.Statement.{statement}
-use Rattle.processes.proofs.processes.end_counted.Tie as tie
+use Rattle.ending.proofs.end_counted.Statement.{statement}
+use Rattle.ending.proofs.end_counted.Tie as tie
 
 end-last-requires : tie.Need-end-last-requires
 end-last-requires c κs = search needs

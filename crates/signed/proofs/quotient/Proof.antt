@@ -2,8 +2,8 @@ use native.Mathlib.Omega.{arith}
 use native.Mathlib.Nat.{div-le-self}
 use Rattle.words.proofs.Signed.{magnitude-some, quot-plus-plus, quot-plus-minus, quot-minus-plus, quot-minus-minus}
 use borrow.Author.Needs.{needs}
-use Rattle.arith.proofs.signed.quotient.Statement.{statement}
-use Rattle.arith.proofs.signed.quotient.Tie as tie
+use Rattle.signed.proofs.quotient.Statement.{statement}
+use Rattle.signed.proofs.quotient.Tie as tie
 
 magnitude-requires : tie.Need-magnitude-requires
 magnitude-requires c κs = search needs

@@ -3,8 +3,8 @@ use native.Mathlib.Omega.{arith}
 use Prim.Native.Nat.{_/_, _^_, _+_, _%_}
 use Rattle.words.proofs.Signed.{net-restore}
 use borrow.Author.Needs.{needs}
-use Rattle.arith.proofs.signed.word_of.Statement.{statement}
-use Rattle.arith.proofs.signed.word_of.Tie as tie
+use Rattle.signed.proofs.word_of.Statement.{statement}
+use Rattle.signed.proofs.word_of.Tie as tie
 
 cast-wrapping-sub-u32 : tie.Need-cast-wrapping-sub-u32
 cast-wrapping-sub-u32 c = search needs

@@ -2,8 +2,8 @@ use native.Mathlib.Omega.{arith}
 use native.Mathlib.Nat.{mod-le}
 use Rattle.words.proofs.Signed.{magnitude-some, rem-plus, rem-minus}
 use borrow.Author.Needs.{needs}
-use Rattle.arith.proofs.signed.remainder.Statement.{statement}
-use Rattle.arith.proofs.signed.remainder.Tie as tie
+use Rattle.signed.proofs.remainder.Statement.{statement}
+use Rattle.signed.proofs.remainder.Tie as tie
 
 magnitude-requires : tie.Need-magnitude-requires
 magnitude-requires c κs = search needs

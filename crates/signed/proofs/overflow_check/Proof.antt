@@ -2,8 +2,8 @@ use native.Mathlib.Omega.{arith}
 use Rattle.rules.specs.Core.{overflowCheck}
 use Rattle.words.proofs.Signed.{too-low, too-high, in-range}
 use borrow.Author.Needs.{needs}
-use Rattle.arith.proofs.signed.overflow_check.Statement.{statement}
-use Rattle.arith.proofs.signed.overflow_check.Tie as tie
+use Rattle.signed.proofs.overflow_check.Statement.{statement}
+use Rattle.signed.proofs.overflow_check.Tie as tie
 
 word-of-requires : tie.Need-word-of-requires
 word-of-requires c κs = search needs
