@@ -3,7 +3,7 @@
 use frame::FRAME;
 use frame::is_full;
 use frame::refusal;
-use records::put_regs;
+use record_parts::put_regs;
 use rules::Answer;
 use rules::Core;
 use rules::Machine;

@@ -27,7 +27,7 @@ pub fn operate_high(w: Plan, mem: &[u32], code: u32) -> Plan
         0x4C => plan::put_core(w, long::csngl(plan::core_of(w))),
         0x4D => plan::put_core(w, errors::ccnt1(plan::core_of(w))),
         0x4E => timers::talt(w, mem),
-        0x4F => plan::put_core(w, long::ldiff(plan::core_of(w))),
+        0x4F => plan::put_core(w, long_sums::ldiff(plan::core_of(w))),
         0x50 => plan::put_both(w, clocks::sthb(plan::core_of(w), plan::system_of(w))),
         0x51 => timers::taltwt(w, mem),
         0x52 => plan::put_core(w, arith::sum(plan::core_of(w))),

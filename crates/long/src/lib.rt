@@ -1,40 +1,23 @@
 // Arithmetic of two words: operations that touch no memory, on the seven registers by value. Each is the code of the definition of its name.
+// Sums and differences are in the crate long_sums.
 use errors::error_if;
 use errors::set_error_flag;
 use logic::goes;
 use logic::halts;
+use long_sums::low_word;
+use long_sums::split;
 use names::MINUS_ONE;
 use rules::Attempt;
 use rules::Core;
-use signed::biased;
-use signed::overflow_check;
-use signed::word_of;
 ghost use mathlib.Core.Path.{_≡_};
-ghost use Prim.Native.Nat.{_/_, _%_, _^_};
+ghost use Prim.Native.Nat.{_/_, _^_};
 ghost use Rattle.rules.specs.Stack as rules;
-ghost use Rattle.rules.specs.Core as core;
-
-// A := low; B := high.
-pub fn split(low: u32, high: u32, s: Core) -> Core
-    ensures { λ r. ⌜ r ≡ core.withA low (core.withB high s) ⌝ }
-{
-    let mut t = s;
-    t.a = low;
-    t.b = high;
-    t
-}
 
 // Two words as one number.
 pub fn double(high: u32, low: u32) -> u64
     ensures { λ r. ⌜ r ≡ rules.double high low ⌝ }
 {
     high as u64 * 0x1_0000_0000 + low as u64
-}
-
-pub fn low_word(v: u64) -> u32
-    ensures { λ r. ⌜ r ≡ v % 2 ^ 32 ⌝ }
-{
-    (v % 0x1_0000_0000) as u32
 }
 
 pub fn high_word(v: u64) -> u32
@@ -66,53 +49,6 @@ pub fn csngl(s: Core) -> Core
         return error_if(s.b != 0, t);
     }
     error_if(s.b != MINUS_ONE, t)
-}
-
-pub fn carry_in(s: Core) -> u32
-    ensures { λ r. ⌜ r ≡ rules.carryIn s ⌝ }
-{
-    s.c & 1
-}
-
-pub fn ladd(s: Core) -> Core
-    ensures { λ r. ⌜ r ≡ rules.ladd s ⌝ }
-{
-    overflow_check(
-        biased(s.b) as u64 + biased(s.a) as u64 + carry_in(s) as u64,
-        0x1_0000_0000,
-        s,
-    )
-}
-
-pub fn lsub(s: Core) -> Core
-    ensures { λ r. ⌜ r ≡ rules.lsub s ⌝ }
-{
-    overflow_check(
-        biased(s.b) as u64,
-        biased(s.a) as u64 + carry_in(s) as u64,
-        s,
-    )
-}
-
-// The carry is 1 only where the sum is above 2^32: 000's test, to the letter.
-pub fn lsum(s: Core) -> Core
-    ensures { λ r. ⌜ r ≡ rules.lsum s ⌝ }
-{
-    let v = s.b as u64 + s.a as u64 + carry_in(s) as u64;
-    if v > 0x1_0000_0000 {
-        return split(low_word(v), 1, s);
-    }
-    split(low_word(v), 0, s)
-}
-
-pub fn ldiff(s: Core) -> Core
-    ensures { λ r. ⌜ r ≡ rules.ldiff s ⌝ }
-{
-    let m = s.a as u64 + carry_in(s) as u64;
-    if (s.b as u64) < m {
-        return split(word_of(s.b as u64, m), 1, s);
-    }
-    split(word_of(s.b as u64, m), 0, s)
 }
 
 pub fn lmul(s: Core) -> Core

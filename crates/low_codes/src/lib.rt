@@ -32,7 +32,7 @@ pub fn operate_low(w: Plan, mem: &[u32], code: u32) -> Plan
         0x12 => hard::resetch(w, mem),
         0x13 => plan::put_core(w, errors::csub0(plan::core_of(w))),
         0x15 => schedule::stopp(w, mem),
-        0x16 => plan::put_core(w, long::ladd(plan::core_of(w))),
+        0x16 => plan::put_core(w, long_sums::ladd(plan::core_of(w))),
         0x17 => plan::put_both(w, clocks::stlb(plan::core_of(w), plan::system_of(w))),
         0x18 => plan::put_both(w, clocks::sthf(plan::core_of(w), plan::system_of(w))),
         0x19 => plan::put_core(w, long::norm(plan::core_of(w))),

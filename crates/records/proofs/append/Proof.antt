@@ -3,7 +3,7 @@ use Prim.Native.Nat.{_-_}
 use lib.ListN.{length, length-set}
 use Rattle.rules.specs.Registers.{registers}
 use Rattle.survey.specs.Outline.{listed}
-use Rattle.records.proofs.Written.{record-written, listed-length}
+use Rattle.record_parts.proofs.Written.{record-written, listed-length}
 use borrow.Author.Needs.{needs}
 use Rattle.records.proofs.append.Statement.{statement}
 use Rattle.records.proofs.append.Tie as tie

@@ -8,9 +8,9 @@ use lib.Seq.{slice, sets, slice-empty}
 use Rattle.rules.specs.Journal.{olds}
 use Rattle.laws.specs.Lists.{Below}
 use Rattle.survey.proofs.Sorting.{cut}
-use Rattle.records.proofs.Written.{olds-turn, olds-done}
-use Rattle.records.proofs.put_part.Statement.{statement}
-use Rattle.records.proofs.put_part.Tie as tie
+use Rattle.record_parts.proofs.Written.{olds-turn, olds-done}
+use Rattle.record_parts.proofs.put_part.Statement.{statement}
+use Rattle.record_parts.proofs.put_part.Tie as tie
 
 record Turn (j₀ mem ix : List ℕ) (f t at : ℕ) (j : List ℕ) (w k : ℕ) : Type 0 where
   fk : f ≤ k

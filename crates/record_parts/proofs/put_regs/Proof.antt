@@ -4,9 +4,9 @@ use mathlib.Core.Path.{_≡_, sym, _∙_}
 use lib.ListN.{length}
 use lib.Seq.{length-sets}
 use Rattle.rules.specs.Registers.{registers}
-use Rattle.records.proofs.Written.{halves-written}
-use Rattle.records.proofs.put_regs.Statement.{statement}
-use Rattle.records.proofs.put_regs.Tie as tie
+use Rattle.record_parts.proofs.Written.{halves-written}
+use Rattle.record_parts.proofs.put_regs.Statement.{statement}
+use Rattle.record_parts.proofs.put_regs.Tie as tie
 
 long : (c : tie.Start) → length (c .args .regs) ≡ registers
 long c = search needs

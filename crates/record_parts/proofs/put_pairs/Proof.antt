@@ -1,10 +1,10 @@
 use mathlib.Core.Path.{_≡_}
 use Prim.Native.Nat.{_-_}
 use lib.ListN.{length}
-use Rattle.records.proofs.Written.{pairs-written}
+use Rattle.record_parts.proofs.Written.{pairs-written}
 use borrow.Author.Needs.{needs}
-use Rattle.records.proofs.put_pairs.Statement.{statement}
-use Rattle.records.proofs.put_pairs.Tie as tie
+use Rattle.record_parts.proofs.put_pairs.Statement.{statement}
+use Rattle.record_parts.proofs.put_pairs.Tie as tie
 
 long : (c : tie.Start) → length (c .args .o .ix) ≡ 16
 long c = search needs

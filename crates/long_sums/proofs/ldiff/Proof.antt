@@ -1,9 +1,9 @@
 use Rattle.rules.specs.Stack.{ldiff, carryIn}
 use Rattle.rules.proofs.Tests.{yes-lt, no-lt}
-use Rattle.long.proofs.Naturals.{natural-difference}
+use Rattle.long_sums.proofs.Naturals.{natural-difference}
 use borrow.Author.Needs.{needs}
-use Rattle.long.proofs.ldiff.Statement.{statement}
-use Rattle.long.proofs.ldiff.Tie as tie
+use Rattle.long_sums.proofs.ldiff.Statement.{statement}
+use Rattle.long_sums.proofs.ldiff.Tie as tie
 
 cast-m : tie.Need-cast-m
 cast-m c = search needs

@@ -7,9 +7,9 @@ use lib.ListN.{length, length-set}
 use lib.Seq.{sets}
 use Rattle.rules.specs.Journal.{olds}
 use Rattle.survey.specs.Indices.{range}
-use Rattle.records.proofs.Written.{olds-turn, olds-done, range-cut}
-use Rattle.records.proofs.put_range.Statement.{statement}
-use Rattle.records.proofs.put_range.Tie as tie
+use Rattle.record_parts.proofs.Written.{olds-turn, olds-done, range-cut}
+use Rattle.record_parts.proofs.put_range.Statement.{statement}
+use Rattle.record_parts.proofs.put_range.Tie as tie
 
 record Turn (j₀ mem : List ℕ) (lo count at : ℕ) (j : List ℕ) (i w left : ℕ) : Type 0 where
   len : length j ≡ length j₀

@@ -1,8 +1,8 @@
 use Rattle.rules.specs.Stack.{carryIn}
 use Rattle.words.proofs.Signed.{sign-add}
 use borrow.Author.Needs.{needs}
-use Rattle.long.proofs.ladd.Statement.{statement}
-use Rattle.long.proofs.ladd.Tie as tie
+use Rattle.long_sums.proofs.ladd.Statement.{statement}
+use Rattle.long_sums.proofs.ladd.Tie as tie
 
 biased-requires : tie.Need-biased-requires
 biased-requires c κs = search needs

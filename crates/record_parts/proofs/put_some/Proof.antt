@@ -8,8 +8,8 @@ use lib.ListN.{length, length-set}
 use lib.Seq.{slice, sets, slice-empty}
 use Rattle.rules.specs.Registers.{registers}
 use Rattle.survey.proofs.Sorting.{cut}
-use Rattle.records.proofs.put_some.Statement.{statement}
-use Rattle.records.proofs.put_some.Tie as tie
+use Rattle.record_parts.proofs.put_some.Statement.{statement}
+use Rattle.record_parts.proofs.put_some.Tie as tie
 
 record Turn (j₀ regs : List ℕ) (f t at : ℕ) (j : List ℕ) (w k : ℕ) : Type 0 where
   fk : f ≤ k

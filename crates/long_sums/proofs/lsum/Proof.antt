@@ -3,8 +3,8 @@ use Prim.Native.Nat.{_+_, _^_}
 use Rattle.rules.specs.Stack.{lsum}
 use Rattle.rules.proofs.Tests.{yes-lt, no-lt}
 use borrow.Author.Needs.{needs}
-use Rattle.long.proofs.lsum.Statement.{statement}
-use Rattle.long.proofs.lsum.Tie as tie
+use Rattle.long_sums.proofs.lsum.Statement.{statement}
+use Rattle.long_sums.proofs.lsum.Tie as tie
 
 cast-v : tie.Need-cast-v
 cast-v c = search needs

@@ -2,8 +2,8 @@ use Rattle.rules.specs.Stack.{carryIn}
 use Rattle.words.specs.Net.{bias}
 use Rattle.words.proofs.Signed.{sign-difference, net-less}
 use borrow.Author.Needs.{needs}
-use Rattle.long.proofs.lsub.Statement.{statement}
-use Rattle.long.proofs.lsub.Tie as tie
+use Rattle.long_sums.proofs.lsub.Statement.{statement}
+use Rattle.long_sums.proofs.lsub.Tie as tie
 
 biased-requires : tie.Need-biased-requires
 biased-requires c κs = search needs

@@ -1,7 +1,7 @@
 use Prim.Native.Nat.{_-_}
 use borrow.Author.Needs.{needs}
-use Rattle.records.proofs.put_front.Statement.{statement}
-use Rattle.records.proofs.put_front.Tie as tie
+use Rattle.record_parts.proofs.put_front.Statement.{statement}
+use Rattle.record_parts.proofs.put_front.Tie as tie
 
 mul-next : tie.Need-mul-next
 mul-next c = search needs
