@@ -1,7 +1,5 @@
-// What the comparison program reads and writes: cases, responses, and the buffers that hold them; and what the benchmark program
-// reads. No call is made here.
+// What the comparison program reads and writes: cases, responses, and the buffers that hold them. No call is made here.
 pub mod bytes;
 pub mod case;
 pub mod place;
 pub mod room;
-pub mod scenario;

@@ -1,11 +1,9 @@
 // The buffers of the comparison program: what is unread of its input, and unwritten of its output.
 use crate::bytes::move_down;
 use crate::case;
-use crate::case::Head;
-use crate::case::State;
 use crate::case::respond;
 use rules::Reply;
-ghost use Prim.Native.Nat.{_+_, _*_, _≤_};
+ghost use Prim.Native.Nat.{_+_, _*_, _≤_, _<_};
 ghost use mathlib.Core.Path.{_≡_};
 ghost use lib.ListN.{length};
 ghost use Rattle.cases.specs.Sizes.{mostWords, mostJournal, mostResponse};
@@ -16,10 +14,10 @@ pub struct Place {
     pub end: usize,
     pub out: usize,
     pub count: u64,
-    pub state: State,
+    pub state: u32,
 }
 
-// Where a run begins: nothing is read.
+// Where a run begins: nothing is read, so that no case is found.
 pub fn start() -> Place
     ensures { λ r. ⌜ (r .at ≡ 0) × (r .end ≡ 0) × (r .out ≡ 0) ⌝ }
 {
@@ -28,7 +26,7 @@ pub fn start() -> Place
         end: 0,
         out: 0,
         count: 0,
-        state: State::Read,
+        state: case::LOOK,
     }
 }
 
@@ -41,13 +39,13 @@ fn read_some(buf: &mut [u8]) -> usize
 }
 
 // What to do after a read of got bytes, where kept are unread.
-fn after_read(kept: usize, got: usize) -> State {
+fn after_read(kept: usize, got: usize) -> u32 {
     if got > 0 {
-        State::Look
+        case::LOOK
     } else if kept > 0 {
-        State::CutShort
+        case::CUT_SHORT
     } else {
-        State::Ended
+        case::ENDED
     }
 }
 
@@ -56,10 +54,9 @@ fn refill(p: Place, input: &mut [u8]) -> Place
     requires { ⌜ (p .at ≤ p .end) × (p .end ≤ length (now input)) ⌝ }
     ensures { λ r. ⌜ (r .at ≤ r .end) × (r .end ≤ length (now (input .exit))) × (r .out ≡ p .out) ⌝ }
 {
-    let s = p.state;
-    let State::Read = s else {
+    if p.state != case::READ {
         return p;
-    };
+    }
     let at = p.at;
     let kept = p.end - at;
     move_down(input, at, kept);
@@ -70,7 +67,7 @@ fn refill(p: Place, input: &mut [u8]) -> Place
         end: kept + got,
         out: p.out,
         count: p.count,
-        state: state,
+        state,
     }
 }
 
@@ -81,14 +78,13 @@ fn flush(p: Place, output: &[u8]) -> Place
 {
     let out = p.out;
     let done = io::write_all(1, &output[..out]);
-    let s = p.state;
-    let state = if done { s } else { State::Unwritten };
+    let state = if done { p.state } else { case::UNWRITTEN };
     Place {
         at: p.at,
         end: p.end,
         out: 0,
         count: p.count,
-        state: state,
+        state,
     }
 }
 
@@ -111,38 +107,38 @@ pub fn ready(p: Place, input: &mut [u8], output: &[u8]) -> Place
     make_room(refill(p, input), output)
 }
 
-// The place after the case h, whose response ends before the byte out of output.
-fn after(p: Place, h: Head, out: usize) -> Place
-    requires { ⌜ p .at + h .size ≤ p .end ⌝ }
+// The place after a case of size bytes, whose response ends before the byte out of output.
+fn after(p: Place, size: usize, out: usize) -> Place
+    requires { ⌜ p .at + size ≤ p .end ⌝ }
     ensures { λ r. ⌜ (r .at ≤ r .end) × (r .end ≡ p .end) × (r .out ≡ out) ⌝ }
 {
     Place {
-        at: p.at + h.size,
+        at: p.at + size,
         end: p.end,
         out: out,
         count: std::num::wrapping_add_u64(p.count, 1),
-        state: State::Look,
+        state: case::LOOK,
     }
 }
 
-// Writes the response to the case h, and goes on to the place after it.
+// Writes the response to a case of size bytes, and goes on to the place after it.
 pub fn answered(
     p: Place,
-    h: Head,
+    size: usize,
     r: Reply,
     mem: &[u32],
     journal: &[u32],
     output: &mut [u8],
 ) -> Place
-    requires { ⌜ (p .at + h .size ≤ p .end) × (p .out + mostResponse ≤ length (now output)) × (length (now mem) ≤ mostWords) × (length (now journal) ≤ mostJournal) ⌝ }
+    requires { ⌜ (p .at + size ≤ p .end) × (p .out + mostResponse ≤ length (now output)) × (length (now mem) ≤ mostWords) × (length (now journal) ≤ mostJournal) ⌝ }
     ensures { λ r. ⌜ (r .at ≤ r .end) × (r .end ≡ p .end) × (r .out ≤ length (now (output .exit))) ⌝ }
 {
     let out = respond(r, mem, journal, output, p.out);
-    after(p, h, out)
+    after(p, size, out)
 }
 
 // The place with another state.
-pub fn held(p: Place, s: State) -> Place
+pub fn held(p: Place, state: u32) -> Place
     ensures { λ r. ⌜ (r .at ≡ p .at) × (r .end ≡ p .end) × (r .out ≡ p .out) ⌝ }
 {
     Place {
@@ -150,8 +146,16 @@ pub fn held(p: Place, s: State) -> Place
         end: p.end,
         out: p.out,
         count: p.count,
-        state: s,
+        state,
     }
+}
+
+// The turns of the program's loop that are left: none where there is a reason to stop.
+pub fn next(p: Place, turns: u64) -> u64
+    requires { ⌜ 0 < turns ⌝ }
+    ensures { λ r. ⌜ r < turns ⌝ }
+{
+    if p.state == case::LOOK { turns - 1 } else { 0 }
 }
 
 // One line that names the case after the answered ones.
@@ -163,15 +167,16 @@ fn complain(count: u64, what: &[u8]) {
 }
 
 fn report(p: Place) {
-    let s = p.state;
-    match s {
-        State::CutShort => complain(p.count, b"cut short by the end of the input\n"),
-        State::UnknownCall => complain(p.count, b"the call is not one of 0 to 7\n"),
-        State::TooLong => complain(
+    let state = p.state;
+    match state {
+        case::CUT_SHORT => complain(p.count, b"cut short by the end of the input\n"),
+        case::UNKNOWN_CALL => complain(p.count, b"the call is not one of 0 to 8\n"),
+        case::TOO_LONG => complain(
             p.count,
             b"more than 16400 words, 65600 journal words or 65600 code bytes\n",
         ),
-        State::Unwritten => complain(p.count, b"the responses before it cannot be written\n"),
+        case::TOO_SHORT => complain(p.count, b"fewer than 20 code bytes for call 8\n"),
+        case::UNWRITTEN => complain(p.count, b"the responses before it cannot be written\n"),
         _ => {}
     }
 }

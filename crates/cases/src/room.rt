@@ -1,4 +1,4 @@
-// The buffers of the programs, all zeros. Each is made by a function that tells its length alone, so that no caller has
+// The buffers of the program, all zeros. Each is made by a function that tells its length alone, so that no caller has
 // to compute with so many zeros.
 use crate::case::JOURNAL;
 use crate::case::WORDS;
@@ -25,11 +25,4 @@ pub fn journal() -> [u32; JOURNAL]
     ensures { λ r. ⌜ mostJournal ≡ length r ⌝ }
 {
     [0; JOURNAL]
-}
-
-// The longest journal that is no refusal.
-pub fn longest() -> [u32; 65536]
-    ensures { λ r. ⌜ 65536 ≡ length r ⌝ }
-{
-    [0; 65536]
 }

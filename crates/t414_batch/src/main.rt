@@ -1,13 +1,13 @@
-// The comparison program. It reads cases from standard input to its end, makes the one call that each asks for, and writes one
+// The comparison program. It reads cases from standard input to its end, makes the calls that each asks for, and writes one
 // response for each, in order. All numbers are little-endian.
 //
 // A case:
-//     u32 call             0 fresh, 1 step, 2 tick, 3 take, 4 give, 5 event, 6 undo, 7 clear
+//     u32 call             0 fresh, 1 step, 2 tick, 3 take, 4 give, 5 event, 6 undo, 7 clear, 8 repeat
 //     u32 channel          for take and give
 //     u32 byte             for give, modulo 256
 //     u32 words            of memory, up to 16,400, so that Size can be asked
 //     u32 journal words    up to 65,600
-//     u32 code bytes       for fresh, up to 65,600
+//     u32 code bytes       for fresh and repeat, up to 65,600
 //     u64 depth, u64 used
 //     u32 each             the registers, the memory, the journal
 //     bytes                the code, and zero bytes up to a multiple of 4
@@ -17,12 +17,16 @@
 //     u64 depth, u64 used
 //     u32 each             the registers, the memory, the journal
 //
-// A case that the end of the input cuts short, an unknown call or a length past the limits ends the program: one line on standard
-// error, and no response for that case.
+// Repeat is for measuring (docs/PERFORMANCE.md). Its code begins with five numbers of 32 bits: the steps before the first round,
+// the rounds, and the steps, ticks and undos of each round. It makes a fresh machine of the bytes after them and repeats the calls;
+// a round begins by clearing the journal. The first refusal ends it. The response has the last answer and what is left by then.
 //
-// Here are the calls and the loop; reading and writing are in the crate cases, which knows no call.
+// A case that the end of the input cuts short, an unknown call, a length past the limits or a repeat with fewer than 20 code bytes
+// ends the program: one line on standard error, and no response for that case.
+//
+// Here are the calls and the loops; reading and writing are in the crate cases, which knows no call.
+use cases::case::Counts;
 use cases::case::Head;
-use cases::case::State;
 use cases::place::Place;
 use rules::Machine;
 use rules::Reply;
@@ -31,30 +35,105 @@ ghost use mathlib.Core.Path.{_≡_};
 ghost use lib.ListN.{length};
 ghost use Rattle.cases.specs.Sizes.{caseHead, mostWords, mostJournal, mostResponse};
 
-// The call; one outside 0 to 7 is seen before.
-fn reply(h: Head, m: Machine, mem: &mut [u32], journal: &mut [u32], code: &[u8]) -> Reply {
-    let call = h.call;
+// Steps n times after the reply r, or until a step is refused. This is the only place that calls step, so that the compiler can
+// build the whole step into the loop. The loop keeps the reply, not the machine, since that is one copy less for each call.
+fn steps(n: u32, r: Reply, mem: &mut [u32], journal: &mut [u32]) -> Reply {
+    let mut reply = r;
+    let mut left = n;
+    while left > 0 {
+        let answer = reply.answer;
+        if answers::one_if_done(answer) == 0 {
+            return reply;
+        }
+        reply = t414::step(reply.machine, mem, journal);
+        left -= 1;
+    }
+    reply
+}
+
+fn ticks(n: u32, r: Reply, mem: &mut [u32], journal: &mut [u32]) -> Reply {
+    let mut reply = r;
+    let mut left = n;
+    while left > 0 {
+        let answer = reply.answer;
+        if answers::one_if_done(answer) == 0 {
+            return reply;
+        }
+        reply = t414::tick(reply.machine, mem, journal);
+        left -= 1;
+    }
+    reply
+}
+
+fn undos(n: u32, r: Reply, mem: &mut [u32], journal: &mut [u32]) -> Reply {
+    let mut reply = r;
+    let mut left = n;
+    while left > 0 {
+        let answer = reply.answer;
+        if answers::one_if_done(answer) == 0 {
+            return reply;
+        }
+        reply = t414::undo(reply.machine, mem, journal);
+        left -= 1;
+    }
+    reply
+}
+
+// The steps of a round, after a clear.
+fn forward(n: u32, r: Reply, mem: &mut [u32], journal: &mut [u32]) -> Reply {
+    let cleared = t414::clear(r.machine, mem, journal);
+    steps(n, cleared, mem, journal)
+}
+
+fn round(c: Counts, r: Reply, mem: &mut [u32], journal: &mut [u32]) -> Reply {
+    let stepped = forward(c.steps, r, mem, journal);
+    let ticked = ticks(c.ticks, stepped, mem, journal);
+    undos(c.undos, ticked, mem, journal)
+}
+
+// The steps before the rounds, and the rounds.
+fn rounds(c: Counts, r: Reply, mem: &mut [u32], journal: &mut [u32]) -> Reply {
+    let mut reply = steps(c.before, r, mem, journal);
+    let mut left = c.rounds;
+    while left > 0 {
+        let answer = reply.answer;
+        if answers::one_if_done(answer) == 0 {
+            return reply;
+        }
+        reply = round(c, reply, mem, journal);
+        left -= 1;
+    }
+    reply
+}
+
+// The call; one outside 0 to 8 is seen before, and a repeat begins as fresh does. r is the machine of the case, as a reply.
+fn reply_to(h: Head, r: Reply, mem: &mut [u32], journal: &mut [u32], code: &[u8]) -> Reply {
+    let call = h.call % 8;
     match call {
         0 => t414::fresh(mem, journal, code),
-        1 => t414::step(m, mem, journal),
-        2 => t414::tick(m, mem, journal),
-        3 => t414::take(m, mem, journal, h.channel),
-        4 => t414::give(m, mem, journal, h.channel, h.byte),
-        5 => t414::event(m, mem, journal),
-        6 => t414::undo(m, mem, journal),
-        _ => t414::clear(m, mem, journal),
+        1 => steps(1, r, mem, journal),
+        2 => ticks(1, r, mem, journal),
+        3 => t414::take(r.machine, mem, journal, h.channel),
+        4 => t414::give(r.machine, mem, journal, h.channel, h.byte),
+        5 => t414::event(r.machine, mem, journal),
+        6 => undos(1, r, mem, journal),
+        _ => t414::clear(r.machine, mem, journal),
     }
 }
 
-// Makes the call of the case h at the byte at of input; mem and journal are as long as the case says.
+// Makes the call of the case h at the byte at of input, and the rounds after it, of which only a repeat has any; mem and journal
+// are as long as the case says.
 fn ask(h: Head, input: &[u8], at: usize, mem: &mut [u32], journal: &mut [u32]) -> Reply
-    requires { ⌜ at + h .from + h .code ≤ length (now input) ⌝ }
+    requires { ⌜ (at + h .end ≤ length (now input)) × (h .from ≤ h .code) × (h .code ≤ h .end) ⌝ }
     requires { ⌜ h .from ≡ caseHead + 4 * length (now mem) + 4 * length (now journal) ⌝ }
 {
-    let m = cases::case::load(input, at, mem, journal);
-    let code = at + h.from;
-    let end = code + h.code;
-    reply(h, m, mem, journal, &input[code..end])
+    let start = at + h.code;
+    let end = at + h.end;
+    let code = &input[start..end];
+    let c = cases::case::counted(input, at + h.from, start);
+    let r = cases::case::load(input, at, mem, journal);
+    let first = reply_to(h, r, mem, journal, code);
+    rounds(c, first, mem, journal)
 }
 
 // Answers the case h at the place p.
@@ -68,11 +147,11 @@ fn answered(
 ) -> Place
     requires { ⌜ (p .at + h .size ≤ p .end) × (p .end ≤ length (now input)) × (p .out + mostResponse ≤ length (now output)) ⌝ }
     requires { ⌜ (length (now mem) ≤ mostWords) × (length (now journal) ≤ mostJournal) ⌝ }
-    requires { ⌜ (h .from ≡ caseHead + 4 * length (now mem) + 4 * length (now journal)) × (h .from + h .code ≤ h .size) ⌝ }
+    requires { ⌜ (h .from ≡ caseHead + 4 * length (now mem) + 4 * length (now journal)) × (h .from ≤ h .code) × (h .code ≤ h .end) × (h .end ≤ h .size) ⌝ }
     ensures { λ r. ⌜ (r .at ≤ r .end) × (r .end ≡ p .end) × (r .out ≤ length (now (output .exit))) ⌝ }
 {
     let r = ask(h, input, p.at, mem, journal);
-    cases::place::answered(p, h, r, mem, journal, output)
+    cases::place::answered(p, h.size, r, mem, journal, output)
 }
 
 // Answers the case at the place p, if it can be answered, and says what to do next.
@@ -81,11 +160,9 @@ fn one(p: Place, input: &[u8], output: &mut [u8], mem: &mut [u32], journal: &mut
     requires { ⌜ (mostWords ≤ length (now mem)) × (mostJournal ≤ length (now journal)) ⌝ }
     ensures { λ r. ⌜ (r .at ≤ r .end) × (r .end ≡ p .end) × (r .out ≤ length (now (output .exit))) ⌝ }
 {
-    let s = p.state;
-    let h = cases::case::look(s, input, p.at, p.end);
-    if h.size == 0 {
-        let t = h.state;
-        return cases::place::held(p, t);
+    let h = cases::case::look(input, p.at, p.end);
+    if h.state != cases::case::LOOK {
+        return cases::place::held(p, h.state);
     }
     let words = h.words;
     let records = h.journal;
@@ -99,15 +176,6 @@ fn one(p: Place, input: &[u8], output: &mut [u8], mem: &mut [u32], journal: &mut
     )
 }
 
-fn going(p: Place) -> bool {
-    let s = p.state;
-    match s {
-        State::Look => true,
-        State::Read => true,
-        _ => false,
-    }
-}
-
 // Goes on while there is something to do. Nothing bounds the input, so the loop has a count of turns that no run can use up.
 fn all(input: &mut [u8], output: &mut [u8], mem: &mut [u32], journal: &mut [u32]) -> Place
     requires { ⌜ (mostResponse ≤ length (now output)) × (mostWords ≤ length (now mem)) × (mostJournal ≤ length (now journal)) ⌝ }
@@ -115,10 +183,10 @@ fn all(input: &mut [u8], output: &mut [u8], mem: &mut [u32], journal: &mut [u32]
 {
     let mut p = cases::place::start();
     let mut turns = u64::MAX;
-    while turns > 0 && going(p) {
-        p = cases::place::ready(p, input, output);
+    while turns > 0 {
         p = one(p, input, output, mem, journal);
-        turns -= 1;
+        p = cases::place::ready(p, input, output);
+        turns = cases::place::next(p, turns);
     }
     p
 }

@@ -4,6 +4,5 @@
 
 pub mod code;
 pub mod measure;
-pub mod repeat;
 pub mod scenario;
 pub mod table;

@@ -1,12 +1,14 @@
 //! Runs a program on a scenario and measures it from outside: instructions, bytes copied, time.
 
 use std::ffi::OsStr;
-use std::io::{Read, Write};
-use std::path::Path;
+use std::fs::File;
+use std::io::{Read, Seek, Write};
+use std::path::{Path, PathBuf};
 use std::process::{Command, Stdio};
 use std::time::{Duration, Instant};
 
 use comparer::process::Program;
+use comparer::protocol::{put_case, put_response};
 
 use crate::scenario::Scenario;
 
@@ -16,29 +18,49 @@ struct Outcome {
     took: Duration,
 }
 
-/// Runs a command on a scenario. The line that it prints has to count every call as accepted, since
-/// a refused call is another thing to measure.
+/// A place for a file of this process.
+fn room(name: &str) -> PathBuf {
+    std::env::temp_dir().join(format!("bench-{}.{name}", std::process::id()))
+}
+
+/// The case as an open file. From a pipe a program would read it in parts, and not in the same
+/// parts each time, so that the counts would differ.
+fn input(scenario: &Scenario, rounds: u32) -> std::io::Result<File> {
+    let mut bytes = Vec::new();
+    put_case(&mut bytes, &scenario.case(rounds));
+    let place = room("case");
+    let mut file = File::options()
+        .read(true)
+        .write(true)
+        .create(true)
+        .truncate(true)
+        .open(&place)?;
+    std::fs::remove_file(&place)?;
+    file.write_all(&bytes)?;
+    file.rewind()?;
+    Ok(file)
+}
+
+/// Runs a command on a scenario. It has to answer what the second emulator does, every call
+/// accepted.
 fn run(mut command: Command, scenario: &Scenario, rounds: u32) -> Result<Outcome, String> {
     let name = format!("{:?}", command.get_program());
     let tell = |text: &str| format!("{name}, {}: {text}", scenario.name);
     let fail = |error: std::io::Error| tell(&error.to_string());
-    command.stdin(Stdio::piped()).stdout(Stdio::piped());
-    command.stderr(Stdio::piped());
+    let mut wanted = Vec::new();
+    put_response(&mut wanted, &scenario.response(rounds)?);
+    command.stdin(input(scenario, rounds).map_err(fail)?);
+    command.stdout(Stdio::piped()).stderr(Stdio::piped());
     let begun = Instant::now();
     let mut child = command.spawn().map_err(fail)?;
-    // The input is shorter than a pipe, so that writing never waits.
-    let mut to = child.stdin.take().ok_or(tell("no standard input"))?;
-    to.write_all(&scenario.input(rounds)).map_err(fail)?;
-    drop(to);
-    let mut line = String::new();
+    let mut answer = Vec::new();
     let mut from = child.stdout.take().ok_or(tell("no standard output"))?;
-    from.read_to_string(&mut line).map_err(fail)?;
+    from.read_to_end(&mut answer).map_err(fail)?;
     let took = processor_time(child.id()).unwrap_or(begun.elapsed());
     let output = child.wait_with_output().map_err(fail)?;
     let complaint = String::from_utf8_lossy(&output.stderr).into_owned();
-    let wanted = scenario.counts(rounds).in_all().to_string();
-    if !output.status.success() || line.trim().rsplit(' ').next() != Some(&wanted) {
-        let said = format!("{wanted} calls, but: {} {}", line.trim(), complaint.trim());
+    if !output.status.success() || answer != wanted {
+        let said = format!("another response than the second's: {}", complaint.trim());
         return Err(tell(&said));
     }
     Ok(Outcome { complaint, took })
@@ -120,7 +142,7 @@ fn copied(program: &Program, scenario: &Scenario, rounds: u32) -> Result<Option<
 
 /// The emulator writes a line for each instruction.
 fn emulated(base: &Command, scenario: &Scenario, rounds: u32) -> Result<u64, String> {
-    let log = std::env::temp_dir().join(format!("bench-{}.log", std::process::id()));
+    let log = room("log");
     let mut command = Command::new(base.get_program());
     command.args(["-one-insn-per-tb", "-d", "exec,nochain", "-D"]);
     command.arg(&log).args(base.get_args());

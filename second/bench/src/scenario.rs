@@ -1,65 +1,30 @@
-//! What is measured, and how the programs are told.
-//!
-//! The input of `t414_bench` and `second_bench` is six numbers of 32 bits, little-endian, and code:
-//! words of memory, steps before the first round, rounds, and the steps, ticks and undos of a round.
-//! A round begins by clearing the journal.
+//! What is measured: cases of repeat, the ninth call of the batch protocol.
+
+use comparer::case::{Call, Case, Response};
+use comparer::repeat::Counts;
+use comparer::respond::respond;
+use emulator::{Emulator, Machine, MAX_JOURNAL};
 
 use crate::code::Code;
 
-/// Bytes of the six numbers.
-pub const HEAD: usize = 24;
-/// The most bytes that a program reads.
-pub const MOST_INPUT: usize = 4_096;
-const WORDS: u32 = 1_024;
+const WORDS: usize = 1_024;
 const BLOCK: i32 = 1_024;
 
-/// The six numbers.
-#[derive(Clone, Copy, Debug, PartialEq, Eq)]
-pub struct Counts {
-    pub words: u32,
-    pub before: u32,
-    pub rounds: u32,
-    pub steps: u32,
-    pub ticks: u32,
-    pub undos: u32,
+/// Calls of a round, the clear not counted.
+pub fn in_round(counts: Counts) -> u64 {
+    u64::from(counts.steps) + u64::from(counts.ticks) + u64::from(counts.undos)
 }
 
-impl Counts {
-    pub fn read(input: &[u8]) -> Option<Counts> {
-        let mut numbers = input.get(..HEAD)?.chunks_exact(4).map(|bytes| {
-            let bytes = bytes.try_into().expect("four bytes");
-            u32::from_le_bytes(bytes)
-        });
-        let mut next = || numbers.next();
-        Some(Counts {
-            words: next()?,
-            before: next()?,
-            rounds: next()?,
-            steps: next()?,
-            ticks: next()?,
-            undos: next()?,
-        })
-    }
-
-    fn bytes(self) -> Vec<u8> {
-        let numbers = [
-            self.words,
-            self.before,
-            self.rounds,
-            self.steps,
-            self.ticks,
-            self.undos,
-        ];
-        numbers.iter().flat_map(|n| n.to_le_bytes()).collect()
-    }
-
-    /// Calls of a round, the clear not counted.
-    pub fn in_round(self) -> u64 {
-        u64::from(self.steps) + u64::from(self.ticks) + u64::from(self.undos)
-    }
-
-    pub fn in_all(self) -> u64 {
-        u64::from(self.before) + u64::from(self.rounds) * self.in_round()
+/// A case of repeat, from words that are all zero.
+pub fn case(counts: Counts, code: &[u8]) -> Case {
+    Case {
+        call: Call::Repeat,
+        channel: 0,
+        byte: 0,
+        machine: Machine::ZERO,
+        memory: vec![0; WORDS],
+        journal: vec![0; MAX_JOURNAL],
+        code: counts.join(code),
     }
 }
 
@@ -74,12 +39,9 @@ pub struct Scenario {
 impl Scenario {
     fn new(name: &'static str, what: &'static str, before: u32, steps: u32, code: Code) -> Self {
         let counts = Counts {
-            words: WORDS,
             before,
-            rounds: 0,
             steps,
-            ticks: 0,
-            undos: 0,
+            ..Counts::default()
         };
         Scenario {
             name,
@@ -96,10 +58,18 @@ impl Scenario {
         }
     }
 
-    pub fn input(&self, rounds: u32) -> Vec<u8> {
-        let mut input = self.counts(rounds).bytes();
-        input.extend(&self.code);
-        input
+    pub fn case(&self, rounds: u32) -> Case {
+        case(self.counts(rounds), &self.code)
+    }
+
+    /// What a program has to answer. Every call has to be accepted, since a refused call is another
+    /// thing to measure.
+    pub fn response(&self, rounds: u32) -> Result<Response, String> {
+        let response = respond(&mut Emulator::new(), self.case(rounds));
+        match response.answer {
+            0 => Ok(response),
+            answer => Err(format!("{}: a call is answered {answer}", self.name)),
+        }
     }
 
     /// The same steps, and each taken back at the round's end.
@@ -211,4 +181,31 @@ fn ticks() -> Scenario {
     let mut scenario = Scenario::new("tick", "ticks", before, 0, code);
     scenario.counts.ticks = 1_000;
     scenario
+}
+
+/// Cases that end with a refusal: of fresh, of a step, a tick and an undo.
+pub fn refused() -> Vec<Case> {
+    let Scenario { counts, code, .. } = arithmetic();
+    let counts = Counts {
+        rounds: 3,
+        ..counts
+    };
+    let all = u32::MAX;
+    let full = Counts {
+        before: all,
+        ..counts
+    };
+    let undone = Counts {
+        undos: all,
+        ..counts
+    };
+    let ticked = Counts {
+        ticks: all,
+        ..counts
+    };
+    let mut small = case(counts, &code);
+    small.memory.truncate(63);
+    let mut cases = vec![case(counts, &[]), small];
+    cases.extend([full, undone, ticked].map(|counts| case(counts, &code)));
+    cases
 }

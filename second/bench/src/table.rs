@@ -3,7 +3,7 @@
 use comparer::process::Program;
 
 use crate::measure::{copied_in_round, instructions_of_round, seconds_of_round};
-use crate::scenario::Scenario;
+use crate::scenario::{in_round, Scenario};
 
 /// What to measure.
 pub struct Options {
@@ -57,7 +57,7 @@ pub fn round(
         }
     }
     if options.times {
-        let rounds = (options.calls / scenario.counts(1).in_round()).max(1);
+        let rounds = (options.calls / in_round(scenario.counts(1))).max(1);
         let seconds = seconds_of_round(programs, scenario, rounds as u32, options.runs)?;
         cost.seconds = seconds.map(Some);
     }

@@ -2,7 +2,7 @@
 
 use emulator::{Machine, Registers};
 
-/// The eight calls with the numbers of the batch protocol.
+/// The eight calls with the numbers of the batch protocol, and repeat, which makes many of them.
 #[derive(Clone, Copy, Debug, PartialEq, Eq)]
 pub enum Call {
     Fresh = 0,
@@ -13,9 +13,11 @@ pub enum Call {
     Event = 5,
     Undo = 6,
     Clear = 7,
+    Repeat = 8,
 }
 
 impl Call {
+    /// The public calls.
     pub const ALL: [Call; 8] = [
         Call::Fresh,
         Call::Step,
@@ -37,6 +39,7 @@ impl Call {
             Call::Event => "event",
             Call::Undo => "undo",
             Call::Clear => "clear",
+            Call::Repeat => "repeat",
         }
     }
 
@@ -45,7 +48,8 @@ impl Call {
     }
 
     pub fn by_number(number: u32) -> Option<Call> {
-        Call::ALL.get(number as usize).copied()
+        let mut calls = Call::ALL.into_iter().chain([Call::Repeat]);
+        calls.nth(number as usize)
     }
 }
 

@@ -12,6 +12,7 @@ pub mod process;
 pub mod program;
 pub mod protocol;
 pub mod random;
+pub mod repeat;
 pub mod respond;
 pub mod runs;
 pub mod sequence;

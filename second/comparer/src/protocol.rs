@@ -5,6 +5,7 @@ use std::io::{self, ErrorKind, Read, Write};
 use emulator::{Machine, REGISTERS};
 
 use crate::case::{Call, Case, Response};
+use crate::repeat::NUMBERS;
 
 pub const LIMIT_MEMORY: u32 = 16_400;
 pub const LIMIT_JOURNAL: u32 = 65_600;
@@ -98,6 +99,9 @@ pub fn read_case(input: &mut impl Read) -> Result<Option<Case>, String> {
         return Err(format!("a length past the limits: {n} {j} {codelen}"));
     }
     let (n, j, codelen) = (n as usize, j as usize, codelen as usize);
+    if call == Call::Repeat && codelen < NUMBERS {
+        return Err(format!("{codelen} code bytes, too few for repeat"));
+    }
     let (depth, used) = (cursor.long(), cursor.long());
     let mut body = vec![0; 4 * (REGISTERS + n + j) + codelen.next_multiple_of(4)];
     if read_up_to(input, &mut body).map_err(|error| error.to_string())? < body.len() {

@@ -3,6 +3,7 @@
 use emulator::{number, Care, Emulator, Machine};
 
 use crate::case::{Call, Case, Response};
+use crate::repeat::repeat;
 
 pub fn respond<K: Care>(emulator: &mut Emulator<K>, case: Case) -> Response {
     let Case {
@@ -31,6 +32,7 @@ pub fn respond<K: Care>(emulator: &mut Emulator<K>, case: Case) -> Response {
         Call::Event => number(&emulator.event(m, mem, jou)),
         Call::Undo => number(&emulator.undo(m, mem, jou)),
         Call::Clear => number(&emulator.clear(m, mem, jou)),
+        Call::Repeat => number(&repeat(emulator, m, mem, jou, &case.code)),
     };
     Response {
         answer,

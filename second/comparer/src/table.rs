@@ -196,5 +196,6 @@ fn meets(call: Call) -> &'static [usize] {
         Call::Event => &[1, 4, 8, 12],
         Call::Undo => &[1, 4, 5],
         Call::Clear => &[1],
+        Call::Repeat => &[],
     }
 }

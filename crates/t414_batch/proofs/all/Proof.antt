@@ -1,13 +1,18 @@
 use native.Mathlib.Omega.{arith}
-use Prim.Native.Nat.{_≤_}
+use Prim.Native.Nat.{_+_, _≤_}
 use lib.ListN.{length}
 use mathlib.Core.Path.{_≡_}
+use Rattle.cases.specs.Sizes.{mostResponse}
 use borrow.Author.Needs.{needs}
 use Rattle.t414_batch.proofs.all.Statement.{statement}
 use Rattle.t414_batch.proofs.all.Tie as tie
+use Rattle.cases.proofs.place.next.Reads as next-reads
+use Rattle.cases.proofs.place.ready.Reads as ready-reads
+use Rattle.cases.proofs.place.start.Reads as start-reads
+use Rattle.t414_batch.proofs.one.Reads as one-reads
 
 abbrev Inv-loop : tie.InvT-loop
-Inv-loop input₀ output₀ mem₀ journal₀ p₀ turns₀ input output mem journal p turns = (p .at ≤ p .end) × (p .end ≤ length input) × (p .out ≤ length output) × (length input ≡ length input₀) × (length output ≡ length output₀) × (length mem ≡ length mem₀) × (length journal ≡ length journal₀)
+Inv-loop input₀ output₀ mem₀ journal₀ p₀ turns₀ input output mem journal p turns = (p .at ≤ p .end) × (p .end ≤ length input) × (p .out + mostResponse ≤ length output) × (length input ≡ length input₀) × (length output ≡ length output₀) × (length mem ≡ length mem₀) × (length journal ≡ length journal₀)
 
 abbrev μ-loop : tie.MeasureT-loop
 μ-loop input₀ output₀ mem₀ journal₀ p₀ turns₀ input output mem journal p turns = turns
@@ -18,17 +23,14 @@ start-requires c κs = search needs
 loop-holds : tie.Need-loop-holds Inv-loop μ-loop
 loop-holds c = search needs
 
-going-requires : tie.Need-going-requires Inv-loop μ-loop
-going-requires c κs = search needs
+one-requires : tie.Need-one-requires Inv-loop μ-loop
+one-requires c κs = search needs
 
 ready-requires : tie.Need-ready-requires Inv-loop μ-loop
 ready-requires c κs = search needs
 
-one-requires : tie.Need-one-requires Inv-loop μ-loop
-one-requires c κs = search needs
-
-sub-turns : tie.Need-sub-turns Inv-loop μ-loop
-sub-turns c = search needs
+next-requires : tie.Need-next-requires Inv-loop μ-loop
+next-requires c κs = search needs
 
 loop-less : tie.Need-loop-less Inv-loop μ-loop
 loop-less c = search needs
@@ -51,21 +53,6 @@ same-length-4 c = search needs
 returns : tie.Need-returns Inv-loop μ-loop
 returns c = search needs
 
-same-length-5 : tie.Need-same-length-5 Inv-loop μ-loop
-same-length-5 c = search needs
-
-same-length-6 : tie.Need-same-length-6 Inv-loop μ-loop
-same-length-6 c = search needs
-
-same-length-7 : tie.Need-same-length-7 Inv-loop μ-loop
-same-length-7 c = search needs
-
-same-length-8 : tie.Need-same-length-8 Inv-loop μ-loop
-same-length-8 c = search needs
-
-returns-2 : tie.Need-returns-2 Inv-loop μ-loop
-returns-2 c = search needs
-
 pub all-spec : {M : Type 1} → statement M
 all-spec =
     tie.close
@@ -74,19 +61,13 @@ all-spec =
     μ-loop
     start-requires
     loop-holds
-    going-requires
-    ready-requires
     one-requires
-    sub-turns
+    ready-requires
+    next-requires
     loop-less
     loop-again
     same-length
     same-length-2
     same-length-3
     same-length-4
-    returns
-    same-length-5
-    same-length-6
-    same-length-7
-    same-length-8
-    returns-2)
+    returns)

@@ -2,8 +2,12 @@ use mathlib.Core.Path.{sym}
 use lib.Seq.{length-take-le}
 use native.Mathlib.Omega.{arith}
 use borrow.Author.Needs.{needs}
+use borrow.Author.Needs.{needs}
 use Rattle.t414_batch.proofs.one.Statement.{statement}
 use Rattle.t414_batch.proofs.one.Tie as tie
+use Rattle.cases.proofs.case.look.Reads as look-reads
+use Rattle.cases.proofs.place.held.Reads as held-reads
+use Rattle.t414_batch.proofs.answered.Reads as answered-reads
 
 look-requires : tie.Need-look-requires
 look-requires c κs = search needs
@@ -18,28 +22,16 @@ slice-relend-prefix-answered : tie.Need-slice-relend-prefix-answered
 slice-relend-prefix-answered c = let e = c .before .before .before .look .ensures (omega arith) in omega arith
 
 slice-aggregate-answered : tie.Need-slice-aggregate-answered
-slice-aggregate-answered c =
-    let e = c .before .before .before .before .look .ensures (omega arith) in
-    sym (length-take-le _ _ (omega arith))
+slice-aggregate-answered c = let e = c .before .before .before .before .look .ensures (omega arith) in sym (length-take-le _ _ (omega arith))
 
 slice-relend-prefix-answered-2 : tie.Need-slice-relend-prefix-answered-2
-slice-relend-prefix-answered-2 c =
-    let e = c .before .before .before .before .look .ensures (omega arith) in
-    omega arith
+slice-relend-prefix-answered-2 c = let e = c .before .before .before .before .look .ensures (omega arith) in omega arith
 
 slice-aggregate-answered-2 : tie.Need-slice-aggregate-answered-2
-slice-aggregate-answered-2 c =
-    let e = c .before .before .before .before .before .look .ensures (omega arith) in
-    sym (length-take-le _ _ (omega arith))
+slice-aggregate-answered-2 c = let e = c .before .before .before .before .before .look .ensures (omega arith) in sym (length-take-le _ _ (omega arith))
 
 answered-requires : tie.Need-answered-requires
-answered-requires c κs =
-    let l = c .before .before .before .before .before in
-    let e = l .look .ensures (omega arith) in
-    let s = l .before .before .before .before .before in
-    let m = length-take-le (l .look .result .words) (s .args .mem .now) (omega arith) in
-    let j = length-take-le (l .look .result .journal) (s .args .journal .now) (omega arith) in
-    ((e .0, s .pre .0 .1, s .pre .0 .2), ((omega arith, omega arith), (omega arith, e .4)))
+answered-requires c κs = let l = c .before .before .before .before .before in let e = l .look .ensures (omega arith) in let s = l .before .before .before .before .before in let m = length-take-le (l .look .result .words) (s .args .mem .now) (omega arith) in let j = length-take-le (l .look .result .journal) (s .args .journal .now) (omega arith) in ((e .0, s .pre .0 .1, s .pre .0 .2), ((omega arith, omega arith), (omega arith, e .4, e .5, e .6)))
 
 same-length : tie.Need-same-length
 same-length c = search needs

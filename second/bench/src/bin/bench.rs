@@ -4,19 +4,25 @@
 use std::io::Write;
 use std::process::ExitCode;
 
-use bench::scenario::{all, Scenario};
+use bench::scenario::{all, in_round, refused, Scenario};
 use bench::table::{round, row, Options, HEADING};
+use comparer::explain::explain;
 use comparer::process::Program;
+use comparer::protocol::put_case;
+use comparer::side::Side;
 
 const USAGE: &str = "\
 bench [--counts | --times] [--runs N] [--calls N] [--lines LIST] [PROGRAM_A PROGRAM_B]
+bench --check [PROGRAM_A PROGRAM_B]
 bench --input LINE ROUNDS
 Without --counts or --times, both are measured. A program is a path, a name (beside bench, else
-Rattle's target/bin) or rattle:PATH; t414_bench and second_bench if none are given.
+Rattle's target/bin) or rattle:PATH; t414_batch and second_batch if none are given. Each has to
+answer what the second emulator does.
 --counts      instructions a call
 --times       calls a second, the best of --runs (7) runs of about --calls (500,000) calls
 --lines LIST  only these lines: arithmetic,call,channel,move,nothing,tick
---input       write a line's input for so many rounds to standard output";
+--check       measure nothing: hold the responses to each line and to refused ones against each other
+--input       write a line's case for so many rounds to standard output";
 
 struct Arguments {
     options: Options,
@@ -28,6 +34,7 @@ fn main() -> ExitCode {
     let given: Vec<String> = std::env::args().skip(1).collect();
     let outcome = match given.split_first() {
         Some((first, rest)) if first == "--input" => input(rest),
+        Some((first, rest)) if first == "--check" => check(rest),
         Some((first, _)) if first == "--help" => {
             println!("{USAGE}");
             Ok(())
@@ -61,10 +68,7 @@ fn arguments(given: Vec<String>) -> Result<Arguments, String> {
             _ => places.push(argument),
         }
     }
-    if places.is_empty() {
-        places = vec!["t414_bench".into(), "second_bench".into()];
-    }
-    let programs = <[String; 2]>::try_from(places).map_err(|_| USAGE)?;
+    let programs = programs(places)?;
     let options = Options {
         counts: only.as_deref() != Some("--times"),
         times: only.as_deref() != Some("--counts"),
@@ -78,13 +82,39 @@ fn arguments(given: Vec<String>) -> Result<Arguments, String> {
     })
 }
 
+fn programs(places: Vec<String>) -> Result<[String; 2], String> {
+    if places.is_empty() {
+        return Ok(["t414_batch".into(), "second_batch".into()]);
+    }
+    <[String; 2]>::try_from(places).map_err(|_| USAGE.into())
+}
+
+/// Every line with two rounds, there and back, and the refused ones.
+fn check(given: &[String]) -> Result<(), String> {
+    let [a, b] = programs(given.to_vec())?;
+    let lines = all().into_iter().flat_map(|line| [line.with_undo(), line]);
+    let mut cases: Vec<_> = lines.map(|line| line.case(2)).collect();
+    cases.extend(refused());
+    let ours = Side::find(&a)?.responses(&cases)?;
+    let theirs = Side::find(&b)?.responses(&cases)?;
+    for (at, case) in cases.iter().enumerate() {
+        if ours[at] != theirs[at] {
+            let text = explain(case, &ours[at], &theirs[at]);
+            return Err(format!("case {at}: {text}"));
+        }
+    }
+    println!("{a} against {b}: {} cases of repeat, 0 differ", cases.len());
+    Ok(())
+}
+
 fn input(given: &[String]) -> Result<(), String> {
     let [name, rounds] = given else {
         return Err(USAGE.into());
     };
     let rounds = rounds.parse().map_err(|_| USAGE)?;
     let line = all().into_iter().find(|line| line.name == name);
-    let bytes = line.ok_or(USAGE)?.input(rounds);
+    let mut bytes = Vec::new();
+    put_case(&mut bytes, &line.ok_or(USAGE)?.case(rounds));
     let written = std::io::stdout().write_all(&bytes);
     written.map_err(|error| error.to_string())
 }
@@ -96,7 +126,7 @@ fn measure(arguments: &Arguments) -> Result<(), String> {
     let programs = [&first, &second];
     println!("{HEADING}");
     for line in &arguments.lines {
-        let calls = line.counts(1).in_round();
+        let calls = in_round(line.counts(1));
         let there = round(programs, line, &arguments.options)?;
         println!("{}", row(line.what, there.of_one(calls)));
         let back = line.with_undo();

@@ -26,6 +26,7 @@ fn weight(call: Call) -> u32 {
         Call::Fresh | Call::Event => 4,
         Call::Tick => 2,
         Call::Clear => 1,
+        Call::Repeat => 0,
     }
 }
 

@@ -56,13 +56,17 @@ fn second_batch_ends_at_a_bad_case() {
     let mut good = Vec::new();
     let case = Generator::new(4, &[Call::Clear]).case();
     put_case(&mut good, &case);
-    let unknown: Vec<u8> = [good.clone(), [8u32.to_le_bytes(); 60].concat()].concat();
+    let unknown: Vec<u8> = [good.clone(), [9u32.to_le_bytes(); 60].concat()].concat();
+    let mut short = case.clone();
+    (short.call, short.code) = (Call::Repeat, vec![0; 19]);
+    let mut too_short = good.clone();
+    put_case(&mut too_short, &short);
     let mut too_long = good.clone();
     let mut head = good[..40].to_vec();
     head[12..16].copy_from_slice(&16_401u32.to_le_bytes());
     too_long.extend(head);
     let cut = [good.clone(), good[..good.len() - 4].to_vec()].concat();
-    for input in [unknown, too_long, cut] {
+    for input in [unknown, too_long, too_short, cut] {
         let outcome = Program::find(BATCH).unwrap().run(input).unwrap();
         assert!(!outcome.status.success());
         assert_eq!(outcome.output.len(), response_bytes(&case));

@@ -5,6 +5,7 @@ use native.Mathlib.Omega.{arith}
 use borrow.Author.Needs.{needs}
 use Rattle.cases.proofs.bytes.give_words.Statement.{statement}
 use Rattle.cases.proofs.bytes.give_words.Tie as tie
+use Rattle.cases.proofs.bytes.put_word.Reads as put-word-reads
 
 abbrev Inv-loop : tie.InvT-loop
 Inv-loop src dst₀ k i₀ dst i = length dst ≡ length dst₀

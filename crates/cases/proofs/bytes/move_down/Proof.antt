@@ -11,9 +11,6 @@ Inv-loop s₀ at n i₀ s i = length s ≡ length s₀
 abbrev μ-loop : tie.MeasureT-loop
 μ-loop s₀ at n i₀ s i = n - i
 
-returns : tie.Need-returns Inv-loop μ-loop
-returns c = search needs
-
 loop-holds : tie.Need-loop-holds Inv-loop μ-loop
 loop-holds c = search needs
 
@@ -38,8 +35,8 @@ loop-again c = search needs
 same-length : tie.Need-same-length Inv-loop μ-loop
 same-length c = search needs
 
-returns-2 : tie.Need-returns-2 Inv-loop μ-loop
-returns-2 c = search needs
+returns : tie.Need-returns Inv-loop μ-loop
+returns c = search needs
 
 pub move-down-spec : {M : Type 1} → statement M
 move-down-spec =
@@ -47,7 +44,6 @@ move-down-spec =
     (tie.spec
     Inv-loop
     μ-loop
-    returns
     loop-holds
     add-s
     slice-read-s
@@ -56,4 +52,4 @@ move-down-spec =
     loop-less
     loop-again
     same-length
-    returns-2)
+    returns)
