@@ -107,14 +107,21 @@ fn rounds(c: Counts, r: Reply, mem: &mut [u32], journal: &mut [u32]) -> Reply {
 }
 
 // The call; one outside 0 to 8 is seen before, and a repeat begins as fresh does. r is the machine of the case, as a reply.
-fn reply_to(h: Head, r: Reply, mem: &mut [u32], journal: &mut [u32], code: &[u8]) -> Reply {
-    let call = h.call % 8;
-    match call {
+fn reply_to(
+    call: u32,
+    channel: u32,
+    byte: u8,
+    r: Reply,
+    mem: &mut [u32],
+    journal: &mut [u32],
+    code: &[u8],
+) -> Reply {
+    match call % 8 {
         0 => t414::fresh(mem, journal, code),
         1 => steps(1, r, mem, journal),
         2 => ticks(1, r, mem, journal),
-        3 => t414::take(r.machine, mem, journal, h.channel),
-        4 => t414::give(r.machine, mem, journal, h.channel, h.byte),
+        3 => t414::take(r.machine, mem, journal, channel),
+        4 => t414::give(r.machine, mem, journal, channel, byte),
         5 => t414::event(r.machine, mem, journal),
         6 => undos(1, r, mem, journal),
         _ => t414::clear(r.machine, mem, journal),
@@ -132,7 +139,7 @@ fn ask(h: Head, input: &[u8], at: usize, mem: &mut [u32], journal: &mut [u32]) -
     let code = &input[start..end];
     let c = cases::case::counted(input, at + h.from, start);
     let r = cases::case::load(input, at, mem, journal);
-    let first = reply_to(h, r, mem, journal, code);
+    let first = reply_to(h.call, h.channel, h.byte, r, mem, journal, code);
     rounds(c, first, mem, journal)
 }
 
