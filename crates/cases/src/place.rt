@@ -3,7 +3,7 @@ use crate::bytes::move_down;
 use crate::case;
 use crate::case::respond;
 use rules::Reply;
-ghost use Prim.Native.Nat.{_+_, _*_, _≤_, _<_};
+ghost use Prim.Native.Nat.{_+_, _≤_, _<_};
 ghost use mathlib.Core.Path.{_≡_};
 ghost use lib.ListN.{length};
 ghost use Rattle.cases.specs.Sizes.{mostWords, mostJournal, mostResponse};
