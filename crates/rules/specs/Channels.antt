@@ -6,7 +6,7 @@ use Rattle.rules.specs.Tests.{pick, ifLt, ifLe, ifEq, ifSet}
 use Rattle.rules.specs.Words.{atByte, atWord, index, heldByte, clearBits}
 use Rattle.rules.specs.Core.{wptrOf}
 use Rattle.rules.specs.Registers.{iptrReg, wdescReg, areg, breg, creg, pointerReg, countReg, channelReg, activeBit, enabledBit, heldBit, runRequest, readyRequest, linkChans, eventChannel}
-use Rattle.rules.specs.Work.{Work, reg, put, raise, lower, wptr, gotoSNP, stop, refuse, wordAt, loadWord, rIndexWord, wIndexWord, transfer}
+use Rattle.rules.specs.Work.{Work, reg, put, raise, lower, wptr, gotoSNP, stop, refuse, readWord, rIndexWord, wIndexWord, transfer}
 use Rattle.rules.specs.Scheduling.{notProcess, enabling, waiting, ready, noneSelected, portBase, stateS, pointerS, saveIptr, run, wait}
 use Rattle.rules.specs.Data.{moveDone}
 use Rattle.rules.specs.Timers.{dropB, isThisSelectedProcess}
@@ -43,7 +43,7 @@ module _ (m : List ℕ) where
 
   -- Request = RunRequest (000 1.8)
   unfoldable pub handleRunRequest : ℕ → Work → Work
-  handleRunRequest hc w = runContent hc (wordAt m (atWord portBase hc) w) (loadWord m (atWord portBase hc) w)
+  handleRunRequest hc w = readWord m (atWord portBase hc) (runContent hc) w
 
   -- status = Waiting.p (000 1.8)
   unfoldable pub readyWaiting : ℕ → Work → Work
@@ -58,12 +58,11 @@ module _ (m : List ℕ) where
   -- status is read at the process's Pointer.s (000 1.8)
   unfoldable pub readyContent : ℕ → Work → Work
   readyContent content w =
-      readyStatus content (wordAt m (atWord (wptrOf content) pointerS) w)
-      (loadWord m (atWord (wptrOf content) pointerS) w)
+      readWord m (atWord (wptrOf content) pointerS) (readyStatus content) w
 
   -- Request = ReadyRequest (000 1.8)
   unfoldable pub handleReadyRequest : ℕ → Work → Work
-  handleReadyRequest hc w = readyContent (wordAt m (atWord portBase hc) w) (loadWord m (atWord portBase hc) w)
+  handleReadyRequest hc w = readWord m (atWord portBase hc) readyContent w
 
   -- the run request is served before the ready request, and that bit is cleared (01, One step)
   unfoldable pub handleChannelRequest : ℕ → Work → Work
@@ -118,8 +117,7 @@ module _ (m : List ℕ) where
   -- ready, after the channel is reset: sourcePtr is read at the partner's Pointer.s (000 1.10, Input; DECISIONS 51)
   unfoldable pub inputReady : ℕ → Work → Work
   inputReady procDesc w =
-      moveMessage procDesc
-      (inputRegs (wordAt m (atWord (wptrOf procDesc) pointerS) w) (loadWord m (atWord (wptrOf procDesc) pointerS) w))
+      moveMessage procDesc (readWord m (atWord (wptrOf procDesc) pointerS) inputRegs w)
 
   -- the IF on procDesc (000 1.10, Input)
   unfoldable pub softInput : ℕ → Work → Work
@@ -130,7 +128,7 @@ module _ (m : List ℕ) where
   unfoldable pub input : Work → Work
   input w =
       ifLt (index (reg breg w)) linkChans (hardInput (index (reg breg w)) w)
-      (softInput (wordAt m (atWord (reg breg w) 0) w) (loadWord m (atWord (reg breg w) 0) w))
+      (readWord m (atWord (reg breg w) 0) softInput w)
 
   -- destPtr is a valid pointer: the channel is reset, the message moved (000 1.10, Output; DECISIONS 14)
   unfoldable pub outputMessage : ℕ → ℕ → Work → Work
@@ -155,8 +153,7 @@ module _ (m : List ℕ) where
   -- destPtr is read at the partner's Pointer.s (000 1.10, Output)
   unfoldable pub outputReady : ℕ → Work → Work
   outputReady procDesc w =
-      outputTo procDesc (wordAt m (atWord (wptrOf procDesc) pointerS) w)
-      (loadWord m (atWord (wptrOf procDesc) pointerS) w)
+      readWord m (atWord (wptrOf procDesc) pointerS) (outputTo procDesc) w
 
   -- the IF on procDesc (000 1.10, Output)
   unfoldable pub softOutput : ℕ → Work → Work
@@ -166,7 +163,7 @@ module _ (m : List ℕ) where
   unfoldable pub output : Work → Work
   output w =
       ifLt (index (reg breg w)) linkChans (hardOutput (index (reg breg w)) w)
-      (softOutput (wordAt m (atWord (reg breg w) 0) w) (loadWord m (atWord (reg breg w) 0) w))
+      (readWord m (atWord (reg breg w) 0) softOutput w)
 
   -- ---- operations
 
@@ -189,8 +186,9 @@ module _ (m : List ℕ) where
   -- reset channel (000 1.11)
   unfoldable pub resetch : Work → Work
   resetch w =
-      put areg (wordAt m (atWord (reg areg w) 0) w)
-      (resetHard (index (reg areg w)) (wIndexWord m (reg areg w) 0 notProcess (loadWord m (atWord (reg areg w) 0) w)))
+      readWord m (atWord (reg areg w) 0)
+      (λ content after. put areg content (resetHard (index (reg areg w)) (wIndexWord m (reg areg w) 0 notProcess after)))
+      w
 
   -- alt start (000 1.11)
   unfoldable pub alt : Work → Work
@@ -238,7 +236,7 @@ module _ (m : List ℕ) where
   unfoldable pub enbcChannel : Work → Work
   enbcChannel w =
       ifLt (index (reg breg w)) linkChans (enbcHard (index (reg breg w)) w)
-      (enbcSoft (wordAt m (atWord (reg breg w) 0) w) (loadWord m (atWord (reg breg w) 0) w))
+      (readWord m (atWord (reg breg w) 0) enbcSoft w)
 
   -- only where Areg is not FALSE (000 1.11; DECISIONS 13)
   unfoldable pub enbcGuard : Work → Work

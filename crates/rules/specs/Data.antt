@@ -4,7 +4,7 @@ use mathlib.Core.List.{List}
 use lib.Bits.{bitOr}
 use Rattle.rules.specs.Words.{minus, atByte, atWord}
 use Rattle.rules.specs.Registers.{iptrReg, wdescReg, areg, breg, creg, oreg, fptrReg, bptrReg}
-use Rattle.rules.specs.Work.{Work, reg, put, wptr, priority, wordAt, loadWord, storeByte, rIndexWord, rIndexByte, wIndexWord, transfer}
+use Rattle.rules.specs.Work.{Work, reg, put, wptr, priority, readWord, storeByte, rIndexWord, rIndexByte, wIndexWord, transfer}
 
 -- Creg := Breg; Breg := Areg (000 1.11, load local)
 unfoldable pub pushed : Work → Work
@@ -91,4 +91,4 @@ module _ (m : List ℕ) where
 
   -- alt end (000 1.11)
   unfoldable pub altend : Work → Work
-  altend w = jumpBy (wordAt m (atWord (wptr w) 0) w) (loadWord m (atWord (wptr w) 0) w)
+  altend w = readWord m (atWord (wptr w) 0) jumpBy w

@@ -7,7 +7,7 @@ use Rattle.rules.specs.Tests.{pick, ifLt, ifLe, ifEq, ifSet}
 use Rattle.rules.specs.Words.{minus, atByte, setBits, clearBits, heldByte, withHeldByte}
 use Rattle.rules.specs.Stack.{clocksRun}
 use Rattle.rules.specs.Registers.{clockReg, prescalerReg, sliceReg, flagsReg, pointerReg, countReg, channelReg, activeBit, enabledBit, heldBit, runRequest, readyRequest, eventChannel}
-use Rattle.rules.specs.Work.{Work, reg, put, raise, lower, notReady, refuse, byteAt, loadByte, storeByte}
+use Rattle.rules.specs.Work.{Work, reg, put, raise, lower, notReady, refuse, readByte, storeByte}
 use Rattle.rules.specs.Scheduling.{sliceLength}
 
 -- a link is moving when it is active and its count is not 0 (01, Links, clocks, slice)
@@ -77,13 +77,17 @@ unfoldable pub tick : Work → Work
 tick w = ifSet clocksRun (reg flagsReg w) (tickClocks w) w
 
 module _ (m : List ℕ) where
-  -- take: the byte at the pointer (01, Links, clocks, slice)
-  unfoldable pub taken : ℕ → Work → ℕ
-  taken c w = byteAt m (reg (pointerReg c) w) w
+  -- take hands over the byte at the pointer, and the link advances (01, Links, clocks, slice)
+  abbrev pub handOver : ℕ → Work → ℕ × Work
+  handOver c w = readByte m (reg (pointerReg c) w) (λ byte after. (byte, advance c after)) w
 
-  -- take hands over the byte at the pointer (01, Links, clocks, slice)
+  -- take: the byte (01, Links, clocks, slice)
+  unfoldable pub taken : ℕ → Work → ℕ
+  taken c w = handOver c w .0
+
+  -- take: what it does to the link (01, Links, clocks, slice)
   unfoldable pub takeByte : ℕ → Work → Work
-  takeByte c w = advance c (loadByte m (reg (pointerReg c) w) w)
+  takeByte c w = handOver c w .1
 
   -- take (01, Links, clocks, slice; 01, Answers by number, 8)
   unfoldable pub take : ℕ → Work → Work

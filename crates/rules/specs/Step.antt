@@ -6,7 +6,7 @@ use Rattle.rules.specs.Words.{atByte, withNibble}
 use Rattle.rules.specs.Core.{errorFlag, haltOnErrorBit}
 use Rattle.rules.specs.Stack.{pfix, nfix}
 use Rattle.rules.specs.Registers.{iptrReg, oreg, statusReg, flagsReg, idleFlag, haltedFlag, linkChans}
-use Rattle.rules.specs.Work.{Work, reg, put, raise, onCore, halted, idle, refuse, byteAt, fetchByte}
+use Rattle.rules.specs.Work.{Work, reg, put, raise, onCore, halted, idle, refuse, fetchByte}
 use Rattle.rules.specs.Scheduling.{actOnSNP}
 use Rattle.rules.specs.Timers.{timerReady, handleTimerRequest}
 use Rattle.rules.specs.Channels.{requested, handleChannelRequest}
@@ -37,8 +37,7 @@ module _ (m : List ℕ) where
   -- (c) one instruction byte is fetched (01, One step)
   unfoldable pub instruction : Work → Work
   instruction w =
-      decode (byteAt m (reg iptrReg w) w / 2 ^ 4)
-      (fetched (byteAt m (reg iptrReg w) w) (fetchByte m (reg iptrReg w) w))
+      fetchByte m (reg iptrReg w) (λ byte after. decode (byte / 2 ^ 4) (fetched byte after)) w
 
   -- 7 Idle (01, Answers by number; DECISIONS 19)
   unfoldable pub instructionUnlessIdle : Work → Work

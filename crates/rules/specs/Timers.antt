@@ -8,7 +8,7 @@ use lib.ListN.{length}
 use Rattle.rules.specs.Tests.{pick, ifEq, ifSet}
 use Rattle.rules.specs.Words.{atByte, atWord, later}
 use Rattle.rules.specs.Registers.{iptrReg, wdescReg, areg, breg, creg, oreg, clockReg, tnextReg, flagsReg, tEnabled}
-use Rattle.rules.specs.Work.{Work, reg, put, raise, lower, wptr, priority, gotoSNP, stop, refuse, wordAt, loadWord, rIndexWord, wIndexWord}
+use Rattle.rules.specs.Work.{Work, reg, put, raise, lower, wptr, priority, gotoSNP, stop, refuse, readWord, rIndexWord, wIndexWord}
 use Rattle.rules.specs.Scheduling.{notProcess, enabling, waiting, ready, timeSet, timeNotSet, noneSelected, timerBase, stateS, pointerS, tlinkS, timeS, saveIptr, run, wait}
 
 -- a timer is enabled, and NOT (TNextReg AFTER ClockReg) (000 1.8; DECISIONS 16)
@@ -51,7 +51,7 @@ module _ (m : List ℕ) where
   -- status is read at the front process's Pointer.s (000 1.8)
   unfoldable pub timerWake : ℕ → ℕ → Work → Work
   timerWake queue front w =
-      timerStatus queue front (wordAt m (atWord front pointerS) w) (loadWord m (atWord front pointerS) w)
+      readWord m (atWord front pointerS) (timerStatus queue front) w
 
   -- the IF on secondProcess (000 1.8, HandleTimerRequest)
   unfoldable pub timerNext : ℕ → ℕ → Work → Work
@@ -65,12 +65,11 @@ module _ (m : List ℕ) where
   -- the queue first, then the process (000 1.8; DECISIONS 41)
   unfoldable pub timerFront : ℕ → ℕ → Work → Work
   timerFront queue front w =
-      timerWake queue front
-      (timerUnlink queue front (wordAt m (atWord front tlinkS) w) (loadWord m (atWord front tlinkS) w))
+      timerWake queue front (readWord m (atWord front tlinkS) (timerUnlink queue front) w)
 
   -- frontProcess is read at TPtrLoc (000 1.8)
   unfoldable pub timerServe : ℕ → Work → Work
-  timerServe queue w = timerFront queue (wordAt m (tptrLoc queue) w) (loadWord m (tptrLoc queue) w)
+  timerServe queue w = readWord m (tptrLoc queue) (timerFront queue) w
 
   -- PROC HandleTimerRequest (000 1.8)
   unfoldable pub handleTimerRequest : ℕ → Work → Work
@@ -96,13 +95,15 @@ module _ (m : List ℕ) where
   unfoldable pub insertWalk : ℕ → ℕ → ℕ → Work → Work
   insertWalk zero time previous w = refuse stop w
   insertWalk (suc turns) time previous w =
-      ifEq (wordAt m previous w) notProcess
-      (insertFinalStep previous (wordAt m previous w) (loadWord m previous w))
-      (pick (later time (wordAt m (atWord (wordAt m previous w) timeS) (loadWord m previous w)))
-      (insertWalk turns time (atWord (wordAt m previous w) tlinkS)
-      (loadWord m (atWord (wordAt m previous w) timeS) (loadWord m previous w)))
-      (insertFinalStep previous (wordAt m previous w)
-      (loadWord m (atWord (wordAt m previous w) timeS) (loadWord m previous w))))
+      readWord m previous
+      (λ subsequent here.
+      ifEq subsequent notProcess (insertFinalStep previous subsequent here)
+      (readWord m (atWord subsequent timeS)
+      (λ its there.
+      pick (later time its) (insertWalk turns time (atWord subsequent tlinkS) there)
+      (insertFinalStep previous subsequent there))
+      here))
+      w
 
   -- PROC InsertFirstStep (000 1.10); the budget is N + 2 (DECISIONS 46)
   unfoldable pub insertFirstStep : Work → Work
@@ -131,8 +132,10 @@ module _ (m : List ℕ) where
   unfoldable pub deleteWalk : ℕ → ℕ → Work → Work
   deleteWalk zero previous w = refuse stop w
   deleteWalk (suc turns) previous w =
-      ifEq (wordAt m previous w) (wptr w) (deleteFinalStep previous (loadWord m previous w))
-      (deleteWalk turns (atWord (wordAt m previous w) tlinkS) (loadWord m previous w))
+      readWord m previous
+      (λ subsequent here.
+      ifEq subsequent (wptr w) (deleteFinalStep previous here) (deleteWalk turns (atWord subsequent tlinkS) here))
+      w
 
   -- PROC DeleteFirstStep (000 1.10); the budget is N + 2 (DECISIONS 46)
   unfoldable pub deleteFirstStep : Work → Work
@@ -148,7 +151,7 @@ module _ (m : List ℕ) where
   -- PROC IsThisSelectedProcess (000 1.10)
   unfoldable pub isThisSelectedProcess : Work → Work
   isThisSelectedProcess w =
-      selectFirst (wordAt m (atWord (wptr w) 0) w) (loadWord m (atWord (wptr w) 0) w)
+      readWord m (atWord (wptr w) 0) selectFirst w
 
   -- ---- operations
 
@@ -199,14 +202,14 @@ module _ (m : List ℕ) where
   enbtLink link w =
       ifEq link timeNotSet (enbtFirst w)
       (ifEq link timeSet
-      (enbtEarlier (wordAt m (atWord (wptr w) timeS) w) (loadWord m (atWord (wptr w) timeS) w))
+      (readWord m (atWord (wptr w) timeS) enbtEarlier w)
       (refuse stop w))
 
   -- the IF on Areg (000 1.11, enable timer)
   unfoldable pub enbtGuard : Work → Work
   enbtGuard w =
       ifEq (reg areg w) 0 w
-      (enbtLink (wordAt m (atWord (wptr w) tlinkS) w) (loadWord m (atWord (wptr w) tlinkS) w))
+      (readWord m (atWord (wptr w) tlinkS) enbtLink w)
 
   -- enable timer (000 1.11)
   unfoldable pub enbt : Work → Work
@@ -220,7 +223,7 @@ module _ (m : List ℕ) where
   unfoldable pub distSet : ℕ → Work → Work
   distSet link w =
       ifEq link timeSet
-      (distReady (wordAt m (atWord (wptr w) timeS) w) (loadWord m (atWord (wptr w) timeS) w))
+      (readWord m (atWord (wptr w) timeS) distReady w)
       (put areg 0 (deleteFirstStep w))
 
   -- the IF on Oreg (000 1.11, disable timer)
@@ -231,4 +234,4 @@ module _ (m : List ℕ) where
   unfoldable pub dist : Work → Work
   dist w =
       ifEq (reg breg w) 0 (put areg 0 w)
-      (distLink (wordAt m (atWord (wptr w) tlinkS) w) (loadWord m (atWord (wptr w) tlinkS) w))
+      (readWord m (atWord (wptr w) tlinkS) distLink w)
