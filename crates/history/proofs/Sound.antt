@@ -31,11 +31,11 @@ abbrev pub Ok : Plain → Type 0
 Ok x = length (x .regs) ≡ registers
 
 pub fine-work : (c : Call) (x : Plain) → Ok x → Fine Known (work c x)
-fine-work step x h = fine-step (x .mem) (λ z. omega arith) (λ z. omega arith) (λ z. omega arith) (fine-begin (x .regs) h)
+fine-work step x h = fine-step (x .mem) (λ k a z kind address. omega arith) (λ k a z kind address. omega arith) (λ k a z kind address. omega arith) (λ k a z kind address. omega arith) (fine-begin (x .regs) h)
 fine-work tick x h = fine-tick (fine-begin (x .regs) h)
-fine-work (spec.take c) x h = fine-take (x .mem) c (λ z. omega arith) (fine-begin (x .regs) h)
-fine-work (give c byte) x h = fine-give (x .mem) c byte (λ z. omega arith) (fine-begin (x .regs) h)
-fine-work event x h = fine-event (λ z. omega arith) (fine-begin (x .regs) h)
+fine-work (spec.take c) x h = fine-take (x .mem) c (λ k a z kind address. omega arith) (fine-begin (x .regs) h)
+fine-work (give c byte) x h = fine-give (x .mem) c byte (λ k a z kind address. omega arith) (fine-begin (x .regs) h)
+fine-work event x h = fine-event (λ k a z kind address. omega arith) (fine-begin (x .regs) h)
 
 -- what an accepted effect is
 module _ (x y : Plain) (w : List ℕ) (b byte : ℕ) (k : Work) (e : effect x byte k ≡ accepted y w b) where

@@ -178,7 +178,7 @@ module _ (m : Machine) (mem j : List ℕ) (h : length (m .regs) ≡ registers) w
 
   pub kept-step : Kept mem j (step m mem j)
   unfolding step
-  kept-step = kept-checked _ _ (λ u. kept-settled _ _ (fine-step mem (λ z. omega arith) (λ z. omega arith) (λ z. omega arith) (fine-begin (m .regs) h)))
+  kept-step = kept-checked _ _ (λ u. kept-settled _ _ (fine-step mem (λ k a z kind address. omega arith) (λ k a z kind address. omega arith) (λ k a z kind address. omega arith) (λ k a z kind address. omega arith) (fine-begin (m .regs) h)))
 
   pub kept-tick : Kept mem j (tick m mem j)
   unfolding tick
@@ -186,15 +186,15 @@ module _ (m : Machine) (mem j : List ℕ) (h : length (m .regs) ≡ registers) w
 
   pub kept-take : (c : ℕ) → Kept mem j (take c m mem j)
   unfolding take
-  kept-take c = kept-checked _ _ (λ u. kept-settled _ _ (fine-take mem c (λ z. omega arith) (fine-begin (m .regs) h)))
+  kept-take c = kept-checked _ _ (λ u. kept-settled _ _ (fine-take mem c (λ k a z kind address. omega arith) (fine-begin (m .regs) h)))
 
   pub kept-give : (c byte : ℕ) → Kept mem j (give c byte m mem j)
   unfolding give
-  kept-give c byte = kept-checked _ _ (λ u. kept-settled _ _ (fine-give mem c byte (λ z. omega arith) (fine-begin (m .regs) h)))
+  kept-give c byte = kept-checked _ _ (λ u. kept-settled _ _ (fine-give mem c byte (λ k a z kind address. omega arith) (fine-begin (m .regs) h)))
 
   pub kept-event : Kept mem j (event m mem j)
   unfolding event
-  kept-event = kept-checked _ _ (λ u. kept-settled _ _ (fine-event (λ z. omega arith) (fine-begin (m .regs) h)))
+  kept-event = kept-checked _ _ (λ u. kept-settled _ _ (fine-event (λ k a z kind address. omega arith) (fine-begin (m .regs) h)))
 
   kept-undoLast : m .used ≤ length j → Kept mem j (undoLast m mem j)
   unfolding undoLast undone ifLt

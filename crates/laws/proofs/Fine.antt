@@ -1,5 +1,5 @@
--- Work keeps its registers: there are 45 of them. And its answer keeps a property that 10 and 11 have where 0 has it: to be one of 01's numbers, or
--- to be neither 0 nor 9, say. The number of a refusal that comes first stays. Assumes nothing.
+-- Work keeps its registers: there are 45 of them. And its answer, with the kind and address of its access, keeps a property that 10 has where 0 has
+-- it: to be one of 01's numbers, say, or not to be 9. A refusal that comes first stays. What can Stop asks the same of 11, and so on. Assumes nothing.
 use mathlib.Core.Path.{_≡_, subst, _∙_}
 use mathlib.Core.List.{List}
 use Prim.Native.Nat.{ℕ, _≤_}
@@ -14,18 +14,21 @@ use Rattle.rules.specs.declared.Attempt.{Attempt}
 use Rattle.rules.specs.declared.Both.{Both}
 use Rattle.rules.proofs.Tests.{yes-eq, no-eq, cases-eq, on-pick, on-lt, on-eq}
 
-pub record Fine (P : ℕ → Type 0) (w : Work) : Type 0 where
+-- where a property of an answer, the kind of its access and its address holds of no refusal, it holds of each refusal with this number
+abbrev pub Turns : (ℕ → ℕ → ℕ → Type 0) → ℕ → Type 0
+Turns P number = (k a : ℕ) → P 0 k a → (kind address : ℕ) → P number kind address
+
+pub record Fine (P : ℕ → ℕ → ℕ → Type 0) (w : Work) : Type 0 where
   pub count : length (w .regs) ≡ registers
-  pub known : P (w .answer)
-  pub ten : P 0 → P outside
-  pub eleven : P 0 → P stop
+  pub known : P (w .answer) (w .kind) (w .address)
+  pub ten : Turns P outside
 
 -- one of 01's numbers
-abbrev pub Known : ℕ → Type 0
-Known n = n ≤ 12
+abbrev pub Known : ℕ → ℕ → ℕ → Type 0
+Known n k a = n ≤ 12
 
 pub fine-begin : (r : List ℕ) → length r ≡ registers → Fine Known (begin r)
-fine-begin r h = record { count = h; known = omega arith; ten = λ z. omega arith; eleven = λ z. omega arith }
+fine-begin r h = record { count = h; known = omega arith; ten = λ k a z kind address. omega arith }
 
 length-withCore : (s : Core) (r : List ℕ) → length (withCore s r) ≡ length r
 unfolding withCore
@@ -35,10 +38,10 @@ length-withSystem : (y : System) (r : List ℕ) → length (withSystem y r) ≡ 
 unfolding withSystem
 length-withSystem y r = simp length-set
 
-module _ {P : ℕ → Type 0} where
+module _ {P : ℕ → ℕ → ℕ → Type 0} where
   pub fine-put : (k v : ℕ) {w : Work} → Fine P w → Fine P (put k v w)
   unfolding put
-  fine-put k v {w} f = record { count = length-set (w .regs) k v ∙ f .count; known = f .known; ten = f .ten; eleven = f .eleven }
+  fine-put k v {w} f = record { count = length-set (w .regs) k v ∙ f .count; known = f .known; ten = f .ten }
 
   pub fine-raise : (k mask : ℕ) {w : Work} → Fine P w → Fine P (raise k mask w)
   unfolding raise
@@ -54,39 +57,39 @@ module _ {P : ℕ → Type 0} where
 
   pub fine-putCore : (s : Core) {w : Work} → Fine P w → Fine P (putCore s w)
   unfolding putCore
-  fine-putCore s {w} f = record { count = length-withCore s (w .regs) ∙ f .count; known = f .known; ten = f .ten; eleven = f .eleven }
+  fine-putCore s {w} f = record { count = length-withCore s (w .regs) ∙ f .count; known = f .known; ten = f .ten }
 
   pub fine-putSystem : (y : System) {w : Work} → Fine P w → Fine P (putSystem y w)
   unfolding putSystem
-  fine-putSystem y {w} f = record { count = length-withSystem y (w .regs) ∙ f .count; known = f .known; ten = f .ten; eleven = f .eleven }
+  fine-putSystem y {w} f = record { count = length-withSystem y (w .regs) ∙ f .count; known = f .known; ten = f .ten }
 
   -- ---- refusals, stores
 
-  pub fine-refuseAt : (number kind address : ℕ) → (P 0 → P number) → {w : Work} → Fine P w → Fine P (refuseAt number kind address w)
+  pub fine-refuseAt : (number kind address : ℕ) → Turns P number → {w : Work} → Fine P w → Fine P (refuseAt number kind address w)
   unfolding refuseAt
   fine-refuseAt number kind address h {w} f =
       cases-eq (w .answer) 0
-      (λ e. rw (yes-eq e) (record { count = f .count; known = h (subst P e (f .known)); ten = f .ten; eleven = f .eleven }))
+      (λ e. rw (yes-eq e) (record { count = f .count; known = h _ _ (subst (λ (n : ℕ). P n (w .kind) (w .address)) e (f .known)) kind address; ten = f .ten }))
       (λ e. rw (no-eq e) f)
 
-  pub fine-refuse : (number : ℕ) → (P 0 → P number) → {w : Work} → Fine P w → Fine P (refuse number w)
+  pub fine-refuse : (number : ℕ) → Turns P number → {w : Work} → Fine P w → Fine P (refuse number w)
   fine-refuse number h f = fine-refuseAt number 0 0 h f
 
   pub fine-append : (s : Store) {w : Work} → Fine P w → Fine P (append s w)
   unfolding append
-  fine-append s f = on-eq (Fine P) _ _ (record { count = f .count; known = f .known; ten = f .ten; eleven = f .eleven }) f
+  fine-append s f = on-eq (Fine P) _ _ (record { count = f .count; known = f .known; ten = f .ten }) f
 
   -- ---- operations on registers alone
 
   pub fine-onCore : (g : Core → Core) {w : Work} → Fine P w → Fine P (onCore g w)
   fine-onCore g f = fine-putCore _ f
 
-  pub fine-attempted : (t : Attempt) {w : Work} → Fine P w → Fine P (attempted t w)
+  pub fine-attempted : (t : Attempt) → Turns P stop → {w : Work} → Fine P w → Fine P (attempted t w)
   unfolding attempted
-  fine-attempted t f = on-pick (Fine P) (t .stops) (fine-refuse stop (f .eleven) f) (fine-putCore _ f)
+  fine-attempted t s f = on-pick (Fine P) (t .stops) (fine-refuse stop s f) (fine-putCore _ f)
 
-  pub fine-onAttempt : (g : Core → Attempt) {w : Work} → Fine P w → Fine P (onAttempt g w)
-  fine-onAttempt g f = fine-attempted _ f
+  pub fine-onAttempt : (g : Core → Attempt) → Turns P stop → {w : Work} → Fine P w → Fine P (onAttempt g w)
+  fine-onAttempt g s f = fine-attempted _ s f
 
   pub fine-putBoth : (t : Both) {w : Work} → Fine P w → Fine P (putBoth t w)
   unfolding putBoth

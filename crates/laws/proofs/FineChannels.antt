@@ -4,13 +4,13 @@ use Prim.Native.Nat.{ℕ}
 use Rattle.rules.specs.Work.{Work, stop}
 use Rattle.rules.specs.Channels.{startTransfer, inputRegs, runContent, handleRunRequest, readyWaiting, readyStatus, readyContent, handleReadyRequest, handleChannelRequest, hardStart, hardOutput, meetHeld, hardInputHeld, hardInputStart, hardInput, saveRegsPendingSoftIO, softWait, moveMessage, inputReady, softInput, input, outputMessage, outputEnabling, outputWaiting, outputTo, outputReady, softOutput, output, outputLocal, outword, outbyte, resetHard, resetch, alt, altwtState, altwt, stateReady, enbs, dissGuard, diss, claimChannel, enbcSoft, enbcHard, enbcChannel, enbcGuard, enbc, disclaim, discSoft, discAnswer, discHard, discChannel, disc}
 use Rattle.rules.proofs.Tests.{on-lt, on-eq}
-use Rattle.laws.proofs.Fine.{Fine, fine-access, fine-gotoSNP, fine-lower, fine-put, fine-rIndexWord, fine-raise, fine-refuse, fine-transfer, fine-wIndexWord}
+use Rattle.laws.proofs.Fine.{Fine, Turns, fine-access, fine-gotoSNP, fine-lower, fine-put, fine-rIndexWord, fine-raise, fine-refuse, fine-transfer, fine-wIndexWord}
 use Rattle.laws.proofs.FineScheduling.{fine-run, fine-saveIptr, fine-wait}
 use Rattle.laws.proofs.FineData.{fine-moveDone}
 use Rattle.laws.proofs.FineTimers.{fine-dropB, fine-isThisSelectedProcess}
 use Rattle.laws.proofs.FineLinks.{fine-eventMeets, fine-receive}
 
-module _ {P : ℕ → Type 0} where
+module _ {P : ℕ → ℕ → ℕ → Type 0} where
   pub fine-startTransfer : (c : ℕ) {w : Work} → Fine P w → Fine P (startTransfer c w)
   unfolding startTransfer
   fine-startTransfer c f = fine-raise _ _ (fine-put _ _ (fine-put _ _ f))
@@ -31,21 +31,21 @@ module _ {P : ℕ → Type 0} where
   unfolding readyWaiting
   fine-readyWaiting m content f = fine-run _ _ (fine-wIndexWord _ _ _ _ f)
 
-  pub fine-readyStatus : (m : List ℕ) (content status : ℕ) {w : Work} → Fine P w → Fine P (readyStatus m content status w)
+  pub fine-readyStatus : (m : List ℕ) (content status : ℕ) → Turns P stop → {w : Work} → Fine P w → Fine P (readyStatus m content status w)
   unfolding readyStatus
-  fine-readyStatus m content status f = on-eq (Fine P) _ _ (fine-wIndexWord _ _ _ _ f) (on-eq (Fine P) _ _ f (on-eq (Fine P) _ _ (fine-readyWaiting _ _ f) (fine-refuse stop (f .eleven) f)))
+  fine-readyStatus m content status s f = on-eq (Fine P) _ _ (fine-wIndexWord _ _ _ _ f) (on-eq (Fine P) _ _ f (on-eq (Fine P) _ _ (fine-readyWaiting _ _ f) (fine-refuse stop s f)))
 
-  pub fine-readyContent : (m : List ℕ) (content : ℕ) {w : Work} → Fine P w → Fine P (readyContent m content w)
+  pub fine-readyContent : (m : List ℕ) (content : ℕ) → Turns P stop → {w : Work} → Fine P w → Fine P (readyContent m content w)
   unfolding readyContent
-  fine-readyContent m content f = fine-readyStatus _ _ _ (fine-access _ _ _ f)
+  fine-readyContent m content s f = fine-readyStatus _ _ _ s (fine-access _ _ _ f)
 
-  pub fine-handleReadyRequest : (m : List ℕ) (hc : ℕ) {w : Work} → Fine P w → Fine P (handleReadyRequest m hc w)
+  pub fine-handleReadyRequest : (m : List ℕ) (hc : ℕ) → Turns P stop → {w : Work} → Fine P w → Fine P (handleReadyRequest m hc w)
   unfolding handleReadyRequest
-  fine-handleReadyRequest m hc f = fine-readyContent _ _ (fine-access _ _ _ f)
+  fine-handleReadyRequest m hc s f = fine-readyContent _ _ s (fine-access _ _ _ f)
 
-  pub fine-handleChannelRequest : (m : List ℕ) (hc : ℕ) {w : Work} → Fine P w → Fine P (handleChannelRequest m hc w)
+  pub fine-handleChannelRequest : (m : List ℕ) (hc : ℕ) → Turns P stop → {w : Work} → Fine P w → Fine P (handleChannelRequest m hc w)
   unfolding handleChannelRequest
-  fine-handleChannelRequest m hc f = on-eq (Fine P) _ _ (fine-handleReadyRequest _ _ (fine-lower _ _ f)) (fine-handleRunRequest _ _ (fine-lower _ _ f))
+  fine-handleChannelRequest m hc s f = on-eq (Fine P) _ _ (fine-handleReadyRequest _ _ s (fine-lower _ _ f)) (fine-handleRunRequest _ _ (fine-lower _ _ f))
 
   pub fine-hardStart : (m : List ℕ) (c : ℕ) {w : Work} → Fine P w → Fine P (hardStart m c w)
   unfolding hardStart

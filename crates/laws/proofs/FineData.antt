@@ -5,7 +5,7 @@ use Rattle.rules.specs.Work.{Work}
 use Rattle.rules.specs.Data.{pushed, popped, adjusted, moveDone, jumpBy, entered, ldl, stl, ldnl, stnl, callFrame, call, ret, lb, sb, blockMove, saveQueue, saveh, savel, altend}
 use Rattle.laws.proofs.Fine.{Fine, fine-access, fine-put, fine-rIndexByte, fine-rIndexWord, fine-storeByte, fine-transfer, fine-wIndexWord}
 
-module _ {P : ℕ → Type 0} where
+module _ {P : ℕ → ℕ → ℕ → Type 0} where
   pub fine-pushed : {w : Work} → Fine P w → Fine P (pushed w)
   unfolding pushed
   fine-pushed f = fine-put _ _ (fine-put _ _ f)

@@ -4,9 +4,9 @@ use Prim.Native.Nat.{ℕ}
 use Rattle.rules.specs.Work.{Work, notReady}
 use Rattle.rules.specs.Links.{transferEnds, endAtZero, advance, noticeHeld, hold, eventMeets, eventHolds, event, tickSlice, tickPrescaler, tickClocks, tick, takeByte, take, receive, give}
 use Rattle.rules.proofs.Tests.{on-lt, on-le, on-eq}
-use Rattle.laws.proofs.Fine.{Fine, fine-access, fine-lower, fine-put, fine-raise, fine-refuse, fine-storeByte}
+use Rattle.laws.proofs.Fine.{Fine, Turns, fine-access, fine-lower, fine-put, fine-raise, fine-refuse, fine-storeByte}
 
-module _ {P : ℕ → Type 0} where
+module _ {P : ℕ → ℕ → ℕ → Type 0} where
   pub fine-transferEnds : (c : ℕ) {w : Work} → Fine P w → Fine P (transferEnds c w)
   unfolding transferEnds
   fine-transferEnds c f = fine-raise _ _ (fine-lower _ _ f)
@@ -35,7 +35,7 @@ module _ {P : ℕ → Type 0} where
   unfolding eventHolds
   fine-eventHolds f = fine-noticeHeld _ (fine-raise _ _ f)
 
-  pub fine-event : (P 0 → P notReady) → {w : Work} → Fine P w → Fine P (event w)
+  pub fine-event : Turns P notReady → {w : Work} → Fine P w → Fine P (event w)
   unfolding event
   fine-event h f = on-eq (Fine P) _ _ (on-eq (Fine P) _ _ (fine-eventHolds f) (fine-refuse notReady h f)) (on-eq (Fine P) _ _ (on-eq (Fine P) _ _ (fine-eventHolds f) (fine-refuse notReady h f)) (fine-eventMeets f))
 
@@ -59,7 +59,7 @@ module _ {P : ℕ → Type 0} where
   unfolding takeByte
   fine-takeByte m c f = fine-advance _ (fine-access _ _ _ f)
 
-  pub fine-take : (m : List ℕ) (c : ℕ) → (P 0 → P notReady) → {w : Work} → Fine P w → Fine P (take m c w)
+  pub fine-take : (m : List ℕ) (c : ℕ) → Turns P notReady → {w : Work} → Fine P w → Fine P (take m c w)
   unfolding take
   fine-take m c h f = on-eq (Fine P) _ _ (fine-refuse notReady h f) (on-eq (Fine P) _ _ (fine-refuse notReady h f) (fine-takeByte _ _ f))
 
@@ -67,6 +67,6 @@ module _ {P : ℕ → Type 0} where
   unfolding receive
   fine-receive m c byte f = fine-advance _ (fine-storeByte _ _ _ f)
 
-  pub fine-give : (m : List ℕ) (c byte : ℕ) → (P 0 → P notReady) → {w : Work} → Fine P w → Fine P (give m c byte w)
+  pub fine-give : (m : List ℕ) (c byte : ℕ) → Turns P notReady → {w : Work} → Fine P w → Fine P (give m c byte w)
   unfolding give
   fine-give m c byte h f = on-eq (Fine P) _ _ (on-eq (Fine P) _ _ (fine-hold _ _ f) (fine-refuse notReady h f)) (on-eq (Fine P) _ _ (on-eq (Fine P) _ _ (fine-hold _ _ f) (fine-refuse notReady h f)) (fine-receive _ _ _ f))

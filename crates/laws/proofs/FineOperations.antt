@@ -10,15 +10,17 @@ use Rattle.rules.specs.Stack as stack
 use Rattle.rules.specs.Scheduling as scheduling
 use Rattle.rules.specs.Data as loads
 use Rattle.rules.specs.Registers.{oreg}
-use Rattle.rules.specs.Work.{Work, reg, unlisted, refuse}
+use Rattle.rules.specs.Work.{Work, reg, stop, unlisted, refuse}
 use Rattle.rules.specs.Operations.{Action, pure, pureOrStop, pureBoth, loadTimer, operations, functions, unlistedAction, operate, opr, function}
 use Rattle.rules.specs.declared.Core.{Core}
 use Rattle.rules.specs.declared.System.{System}
 use Rattle.rules.specs.declared.Attempt.{Attempt}
 use Rattle.rules.specs.declared.Both.{Both}
 use Rattle.rules.proofs.Tests.{on-pick}
+use borrow.Author.Tests.{eqb-true}
 use Rattle.laws.specs.Lists.{listed}
-use Rattle.laws.proofs.Fine.{Fine, fine-putCore, fine-refuse, fine-attempted, fine-putBoth}
+use Rattle.laws.specs.Stops.{canStop}
+use Rattle.laws.proofs.Fine.{Fine, Turns, fine-putCore, fine-refuse, fine-attempted, fine-putBoth}
 use Rattle.laws.proofs.FineScheduling.{fine-endp, fine-startp, fine-stopp, fine-lend, fine-runp, fine-stoperr, fine-j}
 use Rattle.laws.proofs.FineData.{fine-lb, fine-ret, fine-sb, fine-savel, fine-saveh, fine-altend, fine-blockMove, fine-ldnl, fine-ldl, fine-call, fine-stl, fine-stnl}
 use Rattle.laws.proofs.FineTimers.{fine-tin, fine-dist, fine-enbt, fine-talt, fine-taltwt}
@@ -86,23 +88,24 @@ direct-listed code b n₂ n₆ n₁₅ h =
 
 -- ---- tables whose actions keep work fine
 
-pub Keeps : (ℕ → Type 0) → Action → Type 0
+pub Keeps : (ℕ → ℕ → ℕ → Type 0) → Action → Type 0
 Keeps P a = (m : List ℕ) (w : Work) → Fine P w → Fine P (a m w)
 
+-- Q is what the row of a code may ask for
 infixr 5 _&_
-pub data AllKeep (P : ℕ → Type 0) : List (ℕ × Action) → Type 0 where
-  none : AllKeep P []
-  _&_ : {k : ℕ} {a : Action} {t : List (ℕ × Action)} → Keeps P a → AllKeep P t → AllKeep P ((k, a) ∷ t)
+pub data AllKeep (P : ℕ → ℕ → ℕ → Type 0) (Q : ℕ → Type 0) : List (ℕ × Action) → Type 0 where
+  none : AllKeep P Q []
+  _&_ : {k : ℕ} {a : Action} {t : List (ℕ × Action)} → (Q k → Keeps P a) → AllKeep P Q t → AllKeep P Q ((k, a) ∷ t)
 
-module _ (P : ℕ → Type 0) where
+module _ (P : ℕ → ℕ → ℕ → Type 0) where
   -- what a table of such has at k, if the default is such where k has no row
-  look-keeps : (t : List (ℕ × Action)) (k : ℕ) (d : Action) → AllKeep P t → (listed k t ≡ false → Keeps P d) → Keeps P (look t k d)
-  look-keeps [] k d none h = h refl
-  look-keeps ((n, a) ∷ t) k d (p & q) h = go (eqb k n) h (look-keeps t k d q)
+  look-keeps : (Q : ℕ → Type 0) (t : List (ℕ × Action)) (k : ℕ) (d : Action) → AllKeep P Q t → Q k → (listed k t ≡ false → Keeps P d) → Keeps P (look t k d)
+  look-keeps Q [] k d none asked h = h refl
+  look-keeps Q ((n, a) ∷ t) k d (p & q) asked h = go (eqb k n) refl h (look-keeps Q t k d q asked)
     where
-      go : (b : Bool) → (pick b true (listed k t) ≡ false → Keeps P d) → ((listed k t ≡ false → Keeps P d) → Keeps P (look t k d)) → Keeps P (pick b a (look t k d))
-      go true z f = p
-      go false z f = f z
+      go : (b : Bool) → eqb k n ≡ b → (pick b true (listed k t) ≡ false → Keeps P d) → ((listed k t ≡ false → Keeps P d) → Keeps P (look t k d)) → Keeps P (pick b a (look t k d))
+      go true e z f = p (subst Q (eqb-true k n e) asked)
+      go false e z f = f z
 
   -- ---- the kinds of actions
 
@@ -110,9 +113,9 @@ module _ (P : ℕ → Type 0) where
   unfolding Keeps
   keeps-pure g m w f = fine-putCore _ f
 
-  keeps-attempt : (g : Core → Attempt) → Keeps P (pureOrStop g)
+  keeps-attempt : (g : Core → Attempt) → Turns P stop → Keeps P (pureOrStop g)
   unfolding Keeps
-  keeps-attempt g m w f = fine-attempted _ f
+  keeps-attempt g s m w f = fine-attempted _ s f
 
   keeps-both : (g : Core → System → Both) → Keeps P (pureBoth g)
   unfolding Keeps
@@ -122,126 +125,139 @@ module _ (P : ℕ → Type 0) where
   unfolding Keeps
   keeps-timer m w f = fine-putCore _ f
 
-  all-operations : AllKeep P operations
-  unfolding Keeps operations
+  -- the operation of a code may Stop, where the property allows 11
+  abbrev MayStop : ℕ → Type 0
+  MayStop k = canStop k ≡ true → Turns P stop
+
+  allowed : (k : ℕ) → canStop k ≡ true → MayStop k → Turns P stop
+  allowed k e s = s e
+
+  -- no function asks for anything
+  abbrev Free : ℕ → Type 0
+  Free k = Unit {0}
+
+  all-operations : AllKeep P MayStop operations
+  unfolding Keeps operations canStop
   all-operations =
-      keeps-pure stack.rev &
-      (λ m w f. fine-lb m f) &
-      keeps-pure stack.bsub &
-      (λ m w f. fine-endp m f) &
-      keeps-pure stack.diff &
-      keeps-pure stack.add &
-      keeps-pure stack.gcall &
-      (λ m w f. fine-input m f) &
-      keeps-pure stack.prod &
-      keeps-pure stack.gt &
-      keeps-pure stack.wsub &
-      (λ m w f. fine-output m f) &
-      keeps-pure stack.sub &
-      (λ m w f. fine-startp m f) &
-      (λ m w f. fine-outbyte m f) &
-      (λ m w f. fine-outword m f) &
-      keeps-pure stack.seterr &
-      (λ m w f. fine-resetch m f) &
-      keeps-pure stack.csub0 &
-      (λ m w f. fine-stopp m f) &
-      keeps-pure stack.ladd &
-      keeps-both stack.stlb &
-      keeps-both stack.sthf &
-      keeps-pure stack.norm &
-      keeps-pure stack.ldiv &
-      keeps-pure stack.ldpi &
-      keeps-both stack.stlf &
-      keeps-pure stack.xdbl &
-      keeps-pure stack.ldpri &
-      keeps-pure stack.rem &
-      (λ m w f. fine-ret m f) &
-      (λ m w f. fine-lend m f) &
-      keeps-timer &
-      keeps-pure stack.testerr &
-      keeps-pure stack.testpranal &
-      (λ m w f. fine-tin m f) &
-      keeps-pure stack.div &
-      (λ m w f. fine-dist m f) &
-      (λ m w f. fine-disc m f) &
-      (λ m w f. fine-diss m f) &
-      keeps-pure stack.lmul &
-      keeps-pure stack.bitnot &
-      keeps-pure stack.xor &
-      keeps-pure stack.bcnt &
-      keeps-attempt stack.lshr &
-      keeps-attempt stack.lshl &
-      keeps-pure stack.lsum &
-      keeps-pure stack.lsub &
-      (λ m w f. fine-runp m f) &
-      keeps-pure stack.xword &
-      (λ m w f. fine-sb m f) &
-      keeps-pure stack.gajw &
-      (λ m w f. fine-savel m f) &
-      (λ m w f. fine-saveh m f) &
-      keeps-pure stack.wcnt &
-      keeps-attempt stack.shr &
-      keeps-attempt stack.shl &
-      keeps-pure stack.mint &
-      (λ m w f. fine-alt m f) &
-      (λ m w f. fine-altwt m f) &
-      (λ m w f. fine-altend m f) &
-      keeps-pure stack.and &
-      (λ m w f. fine-enbt m f) &
-      (λ m w f. fine-enbc m f) &
-      (λ m w f. fine-enbs m f) &
-      (λ m w f. fine-blockMove m f) &
-      keeps-pure stack.or &
-      keeps-pure stack.csngl &
-      keeps-pure stack.ccnt1 &
-      (λ m w f. fine-talt m f) &
-      keeps-pure stack.ldiff &
-      keeps-both stack.sthb &
-      (λ m w f. fine-taltwt m f) &
-      keeps-pure stack.sum &
-      keeps-pure stack.mul &
-      keeps-both stack.sttimer &
-      (λ m w f. fine-stoperr m f) &
-      keeps-pure stack.cword &
-      keeps-pure stack.clrhalterr &
-      keeps-pure stack.sethalterr &
-      keeps-pure stack.testhalterr &
+      (λ s. keeps-pure stack.rev) &
+      (λ s m w f. fine-lb m f) &
+      (λ s. keeps-pure stack.bsub) &
+      (λ s m w f. fine-endp m f) &
+      (λ s. keeps-pure stack.diff) &
+      (λ s. keeps-pure stack.add) &
+      (λ s. keeps-pure stack.gcall) &
+      (λ s m w f. fine-input m f) &
+      (λ s. keeps-pure stack.prod) &
+      (λ s. keeps-pure stack.gt) &
+      (λ s. keeps-pure stack.wsub) &
+      (λ s m w f. fine-output m f) &
+      (λ s. keeps-pure stack.sub) &
+      (λ s m w f. fine-startp m f) &
+      (λ s m w f. fine-outbyte m f) &
+      (λ s m w f. fine-outword m f) &
+      (λ s. keeps-pure stack.seterr) &
+      (λ s m w f. fine-resetch m f) &
+      (λ s. keeps-pure stack.csub0) &
+      (λ s m w f. fine-stopp m f) &
+      (λ s. keeps-pure stack.ladd) &
+      (λ s. keeps-both stack.stlb) &
+      (λ s. keeps-both stack.sthf) &
+      (λ s. keeps-pure stack.norm) &
+      (λ s. keeps-pure stack.ldiv) &
+      (λ s. keeps-pure stack.ldpi) &
+      (λ s. keeps-both stack.stlf) &
+      (λ s. keeps-pure stack.xdbl) &
+      (λ s. keeps-pure stack.ldpri) &
+      (λ s. keeps-pure stack.rem) &
+      (λ s m w f. fine-ret m f) &
+      (λ s m w f. fine-lend m f) &
+      (λ s. keeps-timer) &
+      (λ s. keeps-pure stack.testerr) &
+      (λ s. keeps-pure stack.testpranal) &
+      (λ s m w f. fine-tin m (allowed 0x2B refl s) f) &
+      (λ s. keeps-pure stack.div) &
+      (λ s m w f. fine-dist m (allowed 0x2E refl s) f) &
+      (λ s m w f. fine-disc m f) &
+      (λ s m w f. fine-diss m f) &
+      (λ s. keeps-pure stack.lmul) &
+      (λ s. keeps-pure stack.bitnot) &
+      (λ s. keeps-pure stack.xor) &
+      (λ s. keeps-pure stack.bcnt) &
+      (λ s. keeps-attempt stack.lshr (allowed 0x35 refl s)) &
+      (λ s. keeps-attempt stack.lshl (allowed 0x36 refl s)) &
+      (λ s. keeps-pure stack.lsum) &
+      (λ s. keeps-pure stack.lsub) &
+      (λ s m w f. fine-runp m f) &
+      (λ s. keeps-pure stack.xword) &
+      (λ s m w f. fine-sb m f) &
+      (λ s. keeps-pure stack.gajw) &
+      (λ s m w f. fine-savel m f) &
+      (λ s m w f. fine-saveh m f) &
+      (λ s. keeps-pure stack.wcnt) &
+      (λ s. keeps-attempt stack.shr (allowed 0x40 refl s)) &
+      (λ s. keeps-attempt stack.shl (allowed 0x41 refl s)) &
+      (λ s. keeps-pure stack.mint) &
+      (λ s m w f. fine-alt m f) &
+      (λ s m w f. fine-altwt m f) &
+      (λ s m w f. fine-altend m f) &
+      (λ s. keeps-pure stack.and) &
+      (λ s m w f. fine-enbt m (allowed 0x47 refl s) f) &
+      (λ s m w f. fine-enbc m f) &
+      (λ s m w f. fine-enbs m f) &
+      (λ s m w f. fine-blockMove m f) &
+      (λ s. keeps-pure stack.or) &
+      (λ s. keeps-pure stack.csngl) &
+      (λ s. keeps-pure stack.ccnt1) &
+      (λ s m w f. fine-talt m f) &
+      (λ s. keeps-pure stack.ldiff) &
+      (λ s. keeps-both stack.sthb) &
+      (λ s m w f. fine-taltwt m (allowed 0x51 refl s) f) &
+      (λ s. keeps-pure stack.sum) &
+      (λ s. keeps-pure stack.mul) &
+      (λ s. keeps-both stack.sttimer) &
+      (λ s m w f. fine-stoperr m f) &
+      (λ s. keeps-pure stack.cword) &
+      (λ s. keeps-pure stack.clrhalterr) &
+      (λ s. keeps-pure stack.sethalterr) &
+      (λ s. keeps-pure stack.testhalterr) &
       none
 
-  all-direct : AllKeep P direct
+  all-direct : AllKeep P Free direct
   unfolding Keeps
   all-direct =
-      (λ m w f. fine-j m f) &
-      keeps-pure stack.ldlp &
-      (λ m w f. fine-ldnl m f) &
-      keeps-pure stack.ldc &
-      keeps-pure stack.ldnlp &
-      (λ m w f. fine-ldl m f) &
-      keeps-pure stack.adc &
-      (λ m w f. fine-call m f) &
-      keeps-pure stack.cj &
-      keeps-pure stack.ajw &
-      keeps-pure stack.eqc &
-      (λ m w f. fine-stl m f) &
-      (λ m w f. fine-stnl m f) &
+      (λ s m w f. fine-j m f) &
+      (λ s. keeps-pure stack.ldlp) &
+      (λ s m w f. fine-ldnl m f) &
+      (λ s. keeps-pure stack.ldc) &
+      (λ s. keeps-pure stack.ldnlp) &
+      (λ s m w f. fine-ldl m f) &
+      (λ s. keeps-pure stack.adc) &
+      (λ s m w f. fine-call m f) &
+      (λ s. keeps-pure stack.cj) &
+      (λ s. keeps-pure stack.ajw) &
+      (λ s. keeps-pure stack.eqc) &
+      (λ s m w f. fine-stl m f) &
+      (λ s m w f. fine-stnl m f) &
       none
 
-module _ {P : ℕ → Type 0} where
-  -- an operation of the list; and any, where the property allows 9
-  pub fine-operate : (code : ℕ) (m : List ℕ) → (listed code operations ≡ false → P 0 → P unlisted) → {w : Work} → Fine P w → Fine P (operate code m w)
+module _ {P : ℕ → ℕ → ℕ → Type 0} where
+  -- an operation of the list, where the property allows 11 if it can Stop; and any, where the property allows 9
+  pub fine-operate : (code : ℕ) (m : List ℕ) → (canStop code ≡ true → Turns P stop) → (listed code operations ≡ false → Turns P unlisted)
+      → {w : Work} → Fine P w → Fine P (operate code m w)
   unfolding operate Keeps
-  fine-operate code m h {w} f = look-keeps P operations code unlistedAction (all-operations P) (λ z m w f. fine-refuse unlisted (h z) f) m w f
+  fine-operate code m s h {w} f =
+      look-keeps P (MayStop P) operations code unlistedAction (all-operations P) s (λ z m w f. fine-refuse unlisted (h z) f) m w f
 
-  pub fine-function : (code : ℕ) (m : List ℕ) → (P 0 → P unlisted) → {w : Work} → Fine P w → Fine P (function code m w)
+  pub fine-function : (code : ℕ) (m : List ℕ) → Turns P stop → Turns P unlisted → {w : Work} → Fine P w → Fine P (function code m w)
   unfolding Keeps
-  fine-function code m h {w} f =
+  fine-function code m s h {w} f =
       subst (Fine P) (sym (function-is code m w))
-      (look-keeps P direct code (pick (eqb code 0xF) opr unlistedAction) (all-direct P)
-      (λ z. on-pick (Keeps P) (eqb code 0xF) (λ m w f. fine-operate _ m (λ z. h) f) (λ m w f. fine-refuse unlisted h f)) m w f)
+      (look-keeps P (Free P) direct code (pick (eqb code 0xF) opr unlistedAction) (all-direct P) tt
+      (λ z. on-pick (Keeps P) (eqb code 0xF) (λ m w f. fine-operate _ m (λ z. s) (λ z. h) f) (λ m w f. fine-refuse unlisted h f)) m w f)
 
-  -- the functions of a byte but opr (and the prefixes) are never refused with 9
+  -- the functions of a byte but opr (and the prefixes) are never refused with 9, and never Stop
   pub fine-direct : (code : ℕ) (m : List ℕ) → code < 16 → (code ≡ 2 → ⊥) → (code ≡ 6 → ⊥) → (code ≡ 0xF → ⊥) → {w : Work} → Fine P w → Fine P (function code m w)
   unfolding Keeps
   fine-direct code m b n₂ n₆ n₁₅ {w} f =
       subst (Fine P) (sym (function-is code m w))
-      (look-keeps P direct code (pick (eqb code 0xF) opr unlistedAction) (all-direct P) (λ z. absurd (direct-listed code b n₂ n₆ n₁₅ z)) m w f)
+      (look-keeps P (Free P) direct code (pick (eqb code 0xF) opr unlistedAction) (all-direct P) tt (λ z. absurd (direct-listed code b n₂ n₆ n₁₅ z)) m w f)

@@ -8,7 +8,7 @@ use Rattle.rules.specs.Registers.{creg}
 use Rattle.rules.proofs.Tests.{on-pick, on-le, on-eq}
 use Rattle.laws.proofs.Fine.{Fine, fine-access, fine-gotoSNP, fine-lower, fine-put, fine-rIndexWord, fine-raise, fine-wIndexWord}
 
-module _ {P : ℕ → Type 0} where
+module _ {P : ℕ → ℕ → ℕ → Type 0} where
   pub fine-setIdle : {w : Work} → Fine P w → Fine P (setIdle w)
   unfolding setIdle
   fine-setIdle f = fine-raise _ _ f

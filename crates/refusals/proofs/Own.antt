@@ -22,7 +22,7 @@ use Rattle.rules.specs.Operations.{operations, operate, function}
 use Rattle.rules.specs.Step.{fetched, execute, decode, instruction, instructionUnlessIdle, timersFirst, channelsFirst, choose}
 use Rattle.rules.proofs.Tests.{yes-eq, no-eq, by-bool, cases-eq, cases-lt}
 use Rattle.laws.specs.Lists.{listed}
-use Rattle.laws.proofs.Fine.{Fine, fine-put, fine-putCore, fine-access}
+use Rattle.laws.proofs.Fine.{Fine, Turns, fine-put, fine-putCore, fine-access}
 use Rattle.laws.proofs.FineScheduling.{fine-actOnSNP}
 use Rattle.laws.proofs.FineTimers.{fine-handleTimerRequest}
 use Rattle.laws.proofs.FineChannels.{fine-handleChannelRequest}
@@ -70,6 +70,10 @@ module _ (r mem : List ℕ) where
 abbrev Mine : ℕ → Type 0
 Mine n = (n ≡ 0) ⊎ ((9 ≤ n) × (n ≤ 11))
 
+-- of an answer, whatever the kind and address of its access
+abbrev Answer : (ℕ → Type 0) → ℕ → ℕ → ℕ → Type 0
+Answer Q n kind address = Q n
+
 abbrev NotNine : ℕ → Type 0
 NotNine n = n ≡ 9 → ⊥
 
@@ -77,12 +81,15 @@ NotNine n = n ≡ 9 → ⊥
 abbrev Is : ℕ → ℕ → Type 0
 Is n k = k ≡ n
 
-is-fine : (n : ℕ) (w : Work) → length (w .regs) ≡ registers → (0 ≡ n → ⊥) → w .answer ≡ n → Fine (Is n) w
-is-fine n w h z e = record { count = h; known = e; ten = λ q. absurd (z q); eleven = λ q. absurd (z q) }
+not-nine : (n : ℕ) → (n ≡ 9 → ⊥) → Turns (Answer NotNine) n
+not-nine n h k a z kind address = h
 
-not-nine-fine : (w : Work) → length (w .regs) ≡ registers → w .answer ≡ 0 → Fine NotNine w
+is-fine : (n : ℕ) (w : Work) → length (w .regs) ≡ registers → (0 ≡ n → ⊥) → w .answer ≡ n → Fine (Answer (Is n)) w
+is-fine n w h z e = record { count = h; known = e; ten = λ k a q kind address. absurd (z q) }
+
+not-nine-fine : (w : Work) → length (w .regs) ≡ registers → w .answer ≡ 0 → Fine (Answer NotNine) w
 not-nine-fine w h e =
-    record { count = h; known = λ q. omega (arith, e, q); ten = λ z q. omega (arith, q); eleven = λ z q. omega (arith, q) }
+    record { count = h; known = λ q. omega (arith, e, q); ten = not-nine 10 (λ q. omega (arith, q)) }
 
 -- of the work w: its answer is 9 exactly where the operation is unlisted
 module _ (r mem : List ℕ) where
@@ -101,12 +108,18 @@ module _ (r mem : List ℕ) (h : length r ≡ registers) where
   pub own-known : isIdle r ≡ false → Mine (choose mem (begin r) .answer)
   own-known i =
       by-choice r mem (λ w. Mine (w .answer)) i
-      (λ f. fine-actOnSNP mem (fine-handleChannelRequest mem _ fine) .known)
-      (λ n f. fine-actOnSNP mem (fine-handleTimerRequest mem n fine) .known)
-      (λ f. fine-instruction mem (λ z. inr (omega arith, omega arith)) fine .known)
+      (λ f. fine-actOnSNP mem (fine-handleChannelRequest mem _ stops fine) .known)
+      (λ n f. fine-actOnSNP mem (fine-handleTimerRequest mem n stops fine) .known)
+      (λ f. fine-instruction mem stops (turns 9 (omega arith) (omega arith)) fine .known)
     where
-      fine : Fine Mine (begin r)
-      fine = record { count = h; known = inl refl; ten = λ z. inr (omega arith, omega arith); eleven = λ z. inr (omega arith, omega arith) }
+      turns : (n : ℕ) → 9 ≤ n → n ≤ 11 → Turns (Answer Mine) n
+      turns n small large k a z kind address = inr (small, large)
+
+      stops : Turns (Answer Mine) 11
+      stops = turns 11 (omega arith) (omega arith)
+
+      fine : Fine (Answer Mine) (begin r)
+      fine = record { count = h; known = inl refl; ten = turns 10 (omega arith) (omega arith) }
 
   -- ---- an instruction is fetched inside memory
 
@@ -143,10 +156,10 @@ module _ (r mem : List ℕ) (h : length r ≡ registers) where
     not-opr : (byte / 2 ^ 4 ≡ 0xF → ⊥) → isUnlisted r mem ≡ false
     not-opr n = unlisted-is ∙ rw (ne-eqb (byte / 2 ^ 4) 0xF n)
 
-    plain : Fine NotNine after-fetch
+    plain : Fine (Answer NotNine) after-fetch
     plain = not-nine-fine after-fetch fetch-count fetch-answer
 
-    nine : Fine (Is 9) (refuse unlisted after-fetch)
+    nine : Fine (Answer (Is 9)) (refuse unlisted after-fetch)
     unfolding refuseAt
     nine = rw (yes-eq fetch-answer) (is-fine 9 _ fetch-count (λ z. omega (arith, z)) refl)
 
@@ -156,10 +169,10 @@ module _ (r mem : List ℕ) (h : length r ≡ registers) where
         by-bool (listed (reg oreg after-fetch) operations)
         (λ l. unlisted-is
         ∙ rw (eq-eqb (byte / 2 ^ 4) 0xF e, ← operand, l)
-        (sym (ne-eqb _ 9 (fine-actOnSNP mem (fine-put oreg 0 (fine-operate (reg oreg after-fetch) mem (λ z. never (sym z ∙ l)) plain)) .known))))
+        (sym (ne-eqb _ 9 (fine-actOnSNP mem (fine-put oreg 0 (fine-operate (reg oreg after-fetch) mem (λ z. not-nine 11 (λ q. omega (arith, q))) (λ z. never (sym z ∙ l)) plain)) .known))))
         (λ l. unlisted-is
         ∙ rw (eq-eqb (byte / 2 ^ 4) 0xF e, ← operand, l)
-        (sym (eq-eqb _ 9 (fine-actOnSNP mem (fine-put oreg 0 (subst (Fine (Is 9)) (sym (operate-unlisted (reg oreg after-fetch) mem after-fetch l)) nine)) .known))))
+        (sym (eq-eqb _ 9 (fine-actOnSNP mem (fine-put oreg 0 (subst (Fine (Answer (Is 9))) (sym (operate-unlisted (reg oreg after-fetch) mem after-fetch l)) nine)) .known))))
 
     told-decode : Told r mem (decode mem (byte / 2 ^ 4) after-fetch)
     unfolding decode execute
@@ -186,18 +199,21 @@ module _ (r mem : List ℕ) (h : length r ≡ registers) where
       (λ b. rw (inside-same mem kindFetch (getD r iptrReg 0) (begin r) b) (told-decode f b))
       (λ b. told-not r mem _ (unlisted-outside f b) (λ q. omega (arith, q, ten b .known)))
     where
-      ten : length mem ≤ index (getD r iptrReg 0) → Fine (Is 10) (decode mem (nextByte r mem / 2 ^ 4) (fetched (nextByte r mem) (access mem kindFetch (getD r iptrReg 0) (begin r))))
-      ten b = fine-decode mem _ (λ z. absurd (let y : _≡_ {A = ℕ} 0 10 = z in omega arith)) (fine-fetched _ (is-fine 10 _ (fine-access mem kindFetch (getD r iptrReg 0) (not-nine-fine (begin r) h refl) .count) (λ z. omega (arith, z)) (outside-out mem kindFetch (getD r iptrReg 0) (begin r) b refl .is)))
+      stays : {n : ℕ} → Turns (Answer (Is 10)) n
+      stays k a z kind address = absurd (let y : _≡_ {A = ℕ} 0 10 = z in omega arith)
+
+      ten : length mem ≤ index (getD r iptrReg 0) → Fine (Answer (Is 10)) (decode mem (nextByte r mem / 2 ^ 4) (fetched (nextByte r mem) (access mem kindFetch (getD r iptrReg 0) (begin r))))
+      ten b = fine-decode mem _ stays stays (fine-fetched _ (is-fine 10 _ (fine-access mem kindFetch (getD r iptrReg 0) (not-nine-fine (begin r) h refl) .count) (λ z. omega (arith, z)) (outside-out mem kindFetch (getD r iptrReg 0) (begin r) b refl .is)))
 
   pub own-nine : isIdle r ≡ false → isUnlisted r mem ≡ eqb (choose mem (begin r) .answer) 9
   unfolding Told
   own-nine i =
       by-choice r mem (Told r mem) i
-      (λ f. told-not r mem (actOnSNP mem (handleChannelRequest mem (requested (begin r)) (begin r))) (unfetched r mem f) (fine-actOnSNP mem (fine-handleChannelRequest mem _ fine) .known))
-      (λ n f. told-not r mem (actOnSNP mem (handleTimerRequest mem n (begin r))) (unfetched r mem f) (fine-actOnSNP mem (fine-handleTimerRequest mem n fine) .known))
+      (λ f. told-not r mem (actOnSNP mem (handleChannelRequest mem (requested (begin r)) (begin r))) (unfetched r mem f) (fine-actOnSNP mem (fine-handleChannelRequest mem _ (not-nine 11 (λ q. omega (arith, q))) fine) .known))
+      (λ n f. told-not r mem (actOnSNP mem (handleTimerRequest mem n (begin r))) (unfetched r mem f) (fine-actOnSNP mem (fine-handleTimerRequest mem n (not-nine 11 (λ q. omega (arith, q))) fine) .known))
       told-instruction
     where
-      fine : Fine NotNine (begin r)
+      fine : Fine (Answer NotNine) (begin r)
       fine = not-nine-fine (begin r) h refl
 
   -- its answer, in the table's order

@@ -45,17 +45,17 @@ module _ (regs : List ℕ) (h : length regs ≡ registers) (p : Plan) where
   pub step-known : (mem : List ℕ) → view p ≡ steps.step mem (begin regs) → p .answer ≤ 12
   step-known mem e =
       known-of p (steps.step mem (begin regs)) e
-      (fine-step mem (λ z. omega arith) (λ z. omega arith) (λ z. omega arith) (fine-begin regs h))
+      (fine-step mem (λ k a z kind address. omega arith) (λ k a z kind address. omega arith) (λ k a z kind address. omega arith) (λ k a z kind address. omega arith) (fine-begin regs h))
 
   pub event-known : view p ≡ links.event (begin regs) → p .answer ≤ 12
-  event-known e = known-of p (links.event (begin regs)) e (fine-event (λ z. omega arith) (fine-begin regs h))
+  event-known e = known-of p (links.event (begin regs)) e (fine-event (λ k a z kind address. omega arith) (fine-begin regs h))
 
   pub take-known : (mem : List ℕ) (c : ℕ) → view p ≡ links.take mem c (begin regs) → p .answer ≤ 12
-  take-known mem c e = known-of p (links.take mem c (begin regs)) e (fine-take mem c (λ z. omega arith) (fine-begin regs h))
+  take-known mem c e = known-of p (links.take mem c (begin regs)) e (fine-take mem c (λ k a z kind address. omega arith) (fine-begin regs h))
 
   pub give-known : (mem : List ℕ) (c byte : ℕ) → view p ≡ links.give mem c byte (begin regs) → p .answer ≤ 12
   give-known mem c byte e =
-      known-of p (links.give mem c byte (begin regs)) e (fine-give mem c byte (λ z. omega arith) (fine-begin regs h))
+      known-of p (links.give mem c byte (begin regs)) e (fine-give mem c byte (λ k a z kind address. omega arith) (fine-begin regs h))
 
 module _ (m : Machine) (mem j : List ℕ) (byte : ℕ) (w : Work) where
   pub settled-refused : (w .answer ≡ 0 → ⊥) → refused (w .answer) m mem j ≡ settled m mem j byte w
