@@ -19,7 +19,7 @@ pub fn access(w: Plan, mem: &[u32], kind: u32, a: u32) -> Plan
 }
 
 pub fn fetch_byte(w: Plan, mem: &[u32], a: u32) -> Plan
-    ensures { λ r. ⌜ (view r ≡ rules.fetchByte (now (mem .entry)) a (view w)) × Grown 0 w r ⌝ }
+    ensures { λ r. ⌜ (view r ≡ rules.access (now (mem .entry)) rules.kindFetch a (view w)) × Grown 0 w r ⌝ }
 {
     access(w, mem, KIND_FETCH, a)
 }

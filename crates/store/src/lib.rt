@@ -25,7 +25,7 @@ pub fn load_word(w: Plan, mem: &[u32], a: u32) -> Plan
 }
 
 pub fn load_byte(w: Plan, mem: &[u32], a: u32) -> Plan
-    ensures { λ r. ⌜ (view r ≡ rules.loadByte (now (mem .entry)) a (view w)) × Grown 0 w r ⌝ }
+    ensures { λ r. ⌜ (view r ≡ rules.access (now (mem .entry)) rules.kindLoad a (view w)) × Grown 0 w r ⌝ }
 {
     access(w, mem, KIND_LOAD, a)
 }
