@@ -17,3 +17,4 @@ pub mod InsertRing
 pub mod DeleteRing
 pub mod Steps
 pub mod Appended
+pub mod Alike
