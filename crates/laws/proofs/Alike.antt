@@ -45,10 +45,26 @@ refused-with number w e = rw (yes-eq e)
 any-fine : (w : Work) → length (w .regs) ≡ registers → Fine (λ n k a. Unit {0}) w
 any-fine w c = record { count = c; known = tt; ten = λ k a z kind address. tt }
 
-module _ (m x : List ℕ) where
-  abbrev size : ℕ
-  size = length m
+-- ---- tests: a relation of both answers is one of the test's
 
+module _ (R : Work → Work → Type 0) where
+  pub both-pick : (t : Bool) {a b a′ b′ : Work} → R a a′ → R b b′ → R (pick t a b) (pick t a′ b′)
+  both-pick true p q = p
+  both-pick false p q = q
+
+  pub both-lt : (i j : ℕ) {a b a′ b′ : Work} → R a a′ → R b b′ → R (ifLt i j a b) (ifLt i j a′ b′)
+  unfolding ifLt
+  both-lt i j p q = both-pick (ltb i j) p q
+
+  pub both-le : (i j : ℕ) {a b a′ b′ : Work} → R a a′ → R b b′ → R (ifLe i j a b) (ifLe i j a′ b′)
+  unfolding ifLe
+  both-le i j p q = both-pick (leb i j) p q
+
+  pub both-eq : (i j : ℕ) {a b a′ b′ : Work} → R a a′ → R b b′ → R (ifEq i j a b) (ifEq i j a′ b′)
+  unfolding ifEq
+  both-eq i j p q = both-pick (eqb i j) p q
+
+module _ {size : ℕ} where
   pub self : {w : Work} → Unrefused size w → Alike size w w
   self u = same refl u
 
@@ -56,36 +72,18 @@ module _ (m x : List ℕ) where
   keep-witness w v e f t = record { least = rw e (t .least); most = rw e (t .most); beyond = rw f (t .beyond) }
 
   -- THE LIFT: what keeps refusals, and is alike of the same unrefused work, is alike of work that is alike
-  pub lift : (g : List ℕ → Work → Work) → Stays g → ((w : Work) → Unrefused size w → Alike size (g m w) (g (m ++ x) w))
-      → {w w′ : Work} → Alike size w w′ → Alike size (g m w) (g (m ++ x) w′)
-  lift g s one {w} {w′} (beyond e c t) =
+  pub lift : (m m′ : List ℕ) (g : List ℕ → Work → Work) → Stays g → ((w : Work) → Unrefused size w → Alike size (g m w) (g m′ w))
+      → {w w′ : Work} → Alike size w w′ → Alike size (g m w) (g m′ w′)
+  lift m m′ g s one {w} {w′} (beyond e c t) =
       let n : w .answer ≡ 0 → ⊥ = λ z. let y : _≡_ {A = ℕ} 0 10 = sym z ∙ e in omega arith in
       let f = s m (w .answer) (w .kind) (w .address) (never-turns _ _ _ n) w (as-is w n c) in
       beyond (f .known .0 ∙ e) (f .count) (keep-witness w (g m w) (f .known .1) (f .known .2) t)
-  lift g s one {w} {w′} (refused n o e c c′) =
+  lift m m′ g s one {w} {w′} (refused n o e c c′) =
       let n′ : w′ .answer ≡ 0 → ⊥ = λ z. n (e ∙ z) in
       let f = s m (w .answer) (w .kind) (w .address) (never-turns _ _ _ n) w (as-is w n c) in
-      let f′ = s (m ++ x) (w′ .answer) (w′ .kind) (w′ .address) (never-turns _ _ _ n′) w′ (as-is w′ n′ c′) in
+      let f′ = s m′ (w′ .answer) (w′ .kind) (w′ .address) (never-turns _ _ _ n′) w′ (as-is w′ n′ c′) in
       refused (λ z. n (sym (f .known .0) ∙ z)) (λ z. o (sym (f .known .0) ∙ z)) (f .known .0 ∙ e ∙ sym (f′ .known .0)) (f .count) (f′ .count)
-  lift g s one {w} (same e u) = subst (λ (v : Work). Alike size (g m w) (g (m ++ x) v)) e (one w u)
-
-  -- ---- tests
-
-  pub both-pick : (t : Bool) {a b a′ b′ : Work} → Alike size a a′ → Alike size b b′ → Alike size (pick t a b) (pick t a′ b′)
-  both-pick true p q = p
-  both-pick false p q = q
-
-  pub both-lt : (i j : ℕ) {a b a′ b′ : Work} → Alike size a a′ → Alike size b b′ → Alike size (ifLt i j a b) (ifLt i j a′ b′)
-  unfolding ifLt
-  both-lt i j p q = both-pick (ltb i j) p q
-
-  pub both-le : (i j : ℕ) {a b a′ b′ : Work} → Alike size a a′ → Alike size b b′ → Alike size (ifLe i j a b) (ifLe i j a′ b′)
-  unfolding ifLe
-  both-le i j p q = both-pick (leb i j) p q
-
-  pub both-eq : (i j : ℕ) {a b a′ b′ : Work} → Alike size a a′ → Alike size b b′ → Alike size (ifEq i j a b) (ifEq i j a′ b′)
-  unfolding ifEq
-  both-eq i j p q = both-pick (eqb i j) p q
+  lift m m′ g s one {w} (same e u) = subst (λ (v : Work). Alike size (g m w) (g m′ v)) e (one w u)
 
   -- ---- registers
 
@@ -93,7 +91,7 @@ module _ (m x : List ℕ) where
   on-registers : (g : Work → Work) → Stays (λ mem. g) → ((w : Work) → g w .answer ≡ w .answer) → ((w : Work) → g w .stored ≡ w .stored)
       → ((w : Work) → length (w .regs) ≡ registers → length (g w .regs) ≡ registers) → {w w′ : Work} → Alike size w w′ → Alike size (g w) (g w′)
   on-registers g s e f c n =
-      lift (λ mem. g) s (λ w u. same refl (record { none = e w ∙ u .none; inside = rw (f w) (u .inside); count = c w (u .count) })) n
+      lift [] [] (λ mem. g) s (λ w u. same refl (record { none = e w ∙ u .none; inside = rw (f w) (u .inside); count = c w (u .count) })) n
 
   pub alike-put : (k v : ℕ) {w w′ : Work} → Alike size w w′ → Alike size (put k v w) (put k v w′)
   unfolding put
@@ -132,7 +130,7 @@ module _ (m x : List ℕ) where
 
   pub alike-refuse : (number : ℕ) → (number ≡ 0 → ⊥) → (number ≡ outside → ⊥) → {w w′ : Work} → Alike size w w′ → Alike size (refuse number w) (refuse number w′)
   alike-refuse number z o n =
-      lift (λ mem. refuse number) (λ mem n k a t w f. fine-refuse number (t number) f) refuses n
+      lift [] [] (λ mem. refuse number) (λ mem n k a t w f. fine-refuse number (t number) f) refuses n
     where
       refuses : (w : Work) → Unrefused size w → Alike size (refuse number w) (refuse number w)
       refuses w u =
@@ -140,18 +138,25 @@ module _ (m x : List ℕ) where
           let c = fine-refuse number (λ k a z kind address. tt) (any-fine w (u .count)) .count in
           refused (λ q. z (sym e ∙ q)) (λ q. o (sym e ∙ q)) refl c c
 
+  pub alike-stop : {w w′ : Work} → Alike size w w′ → Alike size (refuse stop w) (refuse stop w′)
+  alike-stop n = alike-refuse stop (λ e. omega (arith, e)) (λ e. omega (arith, e)) n
+
   pub alike-attempted : (a : Attempt) {w w′ : Work} → Alike size w w′ → Alike size (attempted a w) (attempted a w′)
   unfolding attempted
   alike-attempted a n =
-      both-pick (a .stops) (alike-refuse stop (λ e. omega (arith, e)) (λ e. omega (arith, e)) n) (alike-putCore (a .core) n)
+      both-pick (Alike size) (a .stops) (alike-stop n) (alike-putCore (a .core) n)
 
   pub alike-append : (s : Store) → StoreInside size s → {w w′ : Work} → Alike size w w′ → Alike size (append s w) (append s w′)
   unfolding append
   alike-append s i n =
-      lift (λ mem. append s) (λ mem n k a t w f. fine-append s f)
+      lift [] [] (λ mem. append s) (λ mem n k a t w f. fine-append s f)
       (λ w u. rw (yes-eq (u .none)) (same refl (record { none = u .none; inside = inside-snoc size (w .stored) s (u .inside) i; count = u .count }))) n
 
-  -- ---- accesses
+-- ---- accesses
+
+module _ (m x : List ℕ) where
+  abbrev size : ℕ
+  size = length m
 
   -- the refusal of an access outside memory, and what follows keeps it
   lost : (g : List ℕ → Work → Work) → Stays g → (kind a : ℕ) → kindFetch ≤ kind → kind ≤ kindStore → length m ≤ index a
@@ -166,16 +171,17 @@ module _ (m x : List ℕ) where
   unfolding access
   outside-refused kind a w h = no-lt h w (refuseAt outside kind a w)
 
-  longer : (i : ℕ) → i < length m → i < length (m ++ x)
+  pub longer : (i : ℕ) → i < length m → i < length (m ++ x)
   longer i h = omega (arith, length-append m x)
 
-  -- an access, then what follows: where it is inside, what follows is to be alike of the same work
-  pub access-then : (kind a : ℕ) → kindFetch ≤ kind → kind ≤ kindStore → (g g′ : List ℕ → Work → Work) → Stays g → (w : Work) → Unrefused size w
-      → (index a < length m → Alike size (g m w) (g′ (m ++ x) w)) → Alike size (g m (access m kind a w)) (g′ (m ++ x) (access (m ++ x) kind a w))
-  access-then kind a low high g g′ s w u one =
+  -- an access, then what follows: where it is inside, what follows is to be related of the same work; R is Alike, or weaker
+  pub access-then : (R : Work → Work → Type 0) → ((v v′ : Work) → Alike size v v′ → R v v′)
+      → (kind a : ℕ) → kindFetch ≤ kind → kind ≤ kindStore → (g g′ : List ℕ → Work → Work) → Stays g → (w : Work) → Unrefused size w
+      → (index a < length m → R (g m w) (g′ (m ++ x) w)) → R (g m (access m kind a w)) (g′ (m ++ x) (access (m ++ x) kind a w))
+  access-then R weaker kind a low high g g′ s w u one =
       cases-lt (index a) (length m)
       (λ h. rw (inside-same m kind a w h, inside-same (m ++ x) kind a w (longer (index a) h)) (one h))
-      (λ h. rw (outside-refused kind a w h) (lost g s kind a low high h w (g′ (m ++ x) (access (m ++ x) kind a w)) u))
+      (λ h. weaker _ _ (rw (outside-refused kind a w h) (lost g s kind a low high h w (g′ (m ++ x) (access (m ++ x) kind a w)) u)))
 
   pub same-word : (a : ℕ) (w : Work) → Unrefused size w → index a < length m → wordAt (m ++ x) a w ≡ wordAt m a w
   unfolding wordAt
@@ -190,34 +196,34 @@ module _ (m x : List ℕ) where
       → ((v : ℕ) (w : Work) → Unrefused size w → Alike size (next m v w) (next (m ++ x) v w))
       → (w : Work) → Unrefused size w → Alike size (readWord m a (next m) w) (readWord (m ++ x) a (next (m ++ x)) w)
   read-then a next s one w u =
-      access-then kindLoad a (omega arith) (omega arith) (λ mem. next mem (wordAt m a w)) (λ mem. next mem (wordAt (m ++ x) a w)) (s (wordAt m a w)) w u
+      access-then (Alike size) (λ v v′ r. r) kindLoad a (omega arith) (omega arith) (λ mem. next mem (wordAt m a w)) (λ mem. next mem (wordAt (m ++ x) a w)) (s (wordAt m a w)) w u
       (λ h. rw (same-word a w u h) (one (wordAt m a w) w u))
 
   pub alike-rIndexWord : (base n k : ℕ) {w w′ : Work} → Alike size w w′ → Alike size (rIndexWord m base n k w) (rIndexWord (m ++ x) base n k w′)
   unfolding rIndexWord
   alike-rIndexWord base n k r =
-      lift (λ mem. rIndexWord mem base n k) (λ mem n′ k′ a t w f. fine-rIndexWord mem base n k f)
+      lift m (m ++ x) (λ mem. rIndexWord mem base n k) (λ mem n′ k′ a t w f. fine-rIndexWord mem base n k f)
       (read-then (atWord base n) (λ mem. put k) (λ v mem n′ k′ a t w f. fine-put k v f) (λ v w u. alike-put k v (self u))) r
 
   pub alike-rIndexByte : (base k : ℕ) {w w′ : Work} → Alike size w w′ → Alike size (rIndexByte m base k w) (rIndexByte (m ++ x) base k w′)
   unfolding rIndexByte
   alike-rIndexByte base k r =
-      lift (λ mem. rIndexByte mem base k) (λ mem n k′ a t w f. fine-rIndexByte mem base k f)
-      (λ w u. access-then kindLoad base (omega arith) (omega arith) (λ mem. put k (byteAt m base w)) (λ mem. put k (byteAt (m ++ x) base w))
+      lift m (m ++ x) (λ mem. rIndexByte mem base k) (λ mem n k′ a t w f. fine-rIndexByte mem base k f)
+      (λ w u. access-then (Alike size) (λ v v′ r. r) kindLoad base (omega arith) (omega arith) (λ mem. put k (byteAt m base w)) (λ mem. put k (byteAt (m ++ x) base w))
       (λ mem n k′ a t w f. fine-put k _ f) w u (λ h. rw (same-byte base w u h) (alike-put k (byteAt m base w) (self u)))) r
 
   pub alike-wIndexWord : (base n v : ℕ) {w w′ : Work} → Alike size w w′ → Alike size (wIndexWord m base n v w) (wIndexWord (m ++ x) base n v w′)
   unfolding wIndexWord storeWord
   alike-wIndexWord base n v r =
-      lift (λ mem. wIndexWord mem base n v) (λ mem n′ k a t w f. fine-wIndexWord mem base n v f)
-      (λ w u. access-then kindStore (atWord base n) (omega arith) (omega arith) (λ mem. append (word (index (atWord base n)) v)) (λ mem. append (word (index (atWord base n)) v))
+      lift m (m ++ x) (λ mem. wIndexWord mem base n v) (λ mem n′ k a t w f. fine-wIndexWord mem base n v f)
+      (λ w u. access-then (Alike size) (λ v v′ r. r) kindStore (atWord base n) (omega arith) (omega arith) (λ mem. append (word (index (atWord base n)) v)) (λ mem. append (word (index (atWord base n)) v))
       (λ mem n k a t w f. fine-append _ f) w u (λ h. alike-append (word (index (atWord base n)) v) h (self u))) r
 
   pub alike-storeByte : (a b : ℕ) {w w′ : Work} → Alike size w w′ → Alike size (storeByte m a b w) (storeByte (m ++ x) a b w′)
   unfolding storeByte
   alike-storeByte a b r =
-      lift (λ mem. storeByte mem a b) (λ mem n k a′ t w f. fine-storeByte mem a b f)
-      (λ w u. access-then kindStore a (omega arith) (omega arith)
+      lift m (m ++ x) (λ mem. storeByte mem a b) (λ mem n k a′ t w f. fine-storeByte mem a b f)
+      (λ w u. access-then (Alike size) (λ v v′ r. r) kindStore a (omega arith) (omega arith)
       (λ mem. append (word (index a) (withByte (selector a) b (wordAt m a w)))) (λ mem. append (word (index a) (withByte (selector a) b (wordAt (m ++ x) a w))))
       (λ mem n k a′ t w f. fine-append _ f) w u (λ h. rw (same-word a w u h) (alike-append (word (index a) (withByte (selector a) b (wordAt m a w))) h (self u)))) r
 
@@ -250,7 +256,7 @@ module _ (m x : List ℕ) where
     pub alike-transfer : (s d n : ℕ) {w w′ : Work} → Alike size w w′ → Alike size (transfer m s d n w) (transfer (m ++ x) s d n w′)
     unfolding transfer settleMove
     alike-transfer s d n r =
-        lift (λ mem. transfer mem s d n) (λ mem n′ k a t w f. fine-transfer mem s d n f) one r
+        lift m (m ++ x) (λ mem. transfer mem s d n) (λ mem n′ k a t w f. fine-transfer mem s d n f) one r
       where
         one : (w : Work) → Unrefused size w → Alike size (transfer m s d n w) (transfer (m ++ x) s d n w)
         one w u =

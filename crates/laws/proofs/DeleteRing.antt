@@ -38,7 +38,7 @@ module _ (m : List ℕ) (w : Work) (none : w .answer ≡ 0) where
       on-eq Calm p (wptr w) (calm-deleteFinalStep m previous (calm-out o)) (out-deleteWalk m turns (atWord p tlinkS) (loadWord m previous w) o)
 
   -- what it means that the walk does not end at p
-  delete-goes : (p : ℕ) → deleteEnds m w p ≡ false → (p ≡ wptr w → ⊥) × (index (atWord p tlinkS) < length m)
+  pub delete-goes : (p : ℕ) → deleteEnds m w p ≡ false → (p ≡ wptr w → ⊥) × (index (atWord p tlinkS) < length m)
   unfolding deleteEnds
   delete-goes p e = go (eqb p (wptr w)) refl e
     where

@@ -45,7 +45,7 @@ module _ (m : List ℕ) (time : ℕ) (w : Work) (none : w .answer ≡ 0) where
       (calm-insertFinalStep m previous p (calm-out o₂)))
 
   -- what it means that the walk does not end at p
-  insert-goes : (p : ℕ) → insertEnds m w time p ≡ false
+  pub insert-goes : (p : ℕ) → insertEnds m w time p ≡ false
       → (p ≡ notProcess → ⊥) × (index (atWord p timeS) < length m) × (later time (wordAt m (atWord p timeS) w) ≡ true) × (index (atWord p tlinkS) < length m)
   unfolding insertEnds
   insert-goes p e = go (eqb p notProcess) refl (isOutside m w (atWord p timeS)) refl (later time (wordAt m (atWord p timeS) w)) refl e

@@ -18,3 +18,6 @@ pub mod DeleteRing
 pub mod Steps
 pub mod Appended
 pub mod Alike
+pub mod AlikeScheduling
+pub mod AlikeData
+pub mod AlikeLinks
