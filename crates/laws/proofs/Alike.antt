@@ -37,12 +37,12 @@ never-turns n k a h number k′ a′ z kind address = absurd (h (sym (z .0)))
 as-is : (w : Work) → (w .answer ≡ 0 → ⊥) → length (w .regs) ≡ registers → Fine (Is (w .answer) (w .kind) (w .address)) w
 as-is w h c = record { count = c; known = (refl, refl, refl); ten = never-turns (w .answer) (w .kind) (w .address) h outside }
 
-refused-with : (number : ℕ) (w : Work) → w .answer ≡ 0 → refuse number w .answer ≡ number
+pub refused-with : (number : ℕ) (w : Work) → w .answer ≡ 0 → refuse number w .answer ≡ number
 unfolding refuseAt
 refused-with number w e = rw (yes-eq e)
 
 -- of any work: how many registers it has
-any-fine : (w : Work) → length (w .regs) ≡ registers → Fine (λ n k a. Unit {0}) w
+pub any-fine : (w : Work) → length (w .regs) ≡ registers → Fine (λ n k a. Unit {0}) w
 any-fine w c = record { count = c; known = tt; ten = λ k a z kind address. tt }
 
 -- ---- tests: a relation of both answers is one of the test's

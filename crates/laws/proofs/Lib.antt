@@ -21,3 +21,5 @@ pub mod Alike
 pub mod AlikeScheduling
 pub mod AlikeData
 pub mod AlikeLinks
+pub mod AlikeTimers
+pub mod AlikeChannels
