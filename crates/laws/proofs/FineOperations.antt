@@ -46,7 +46,7 @@ direct =
     ∷ (0xE, loads.stnl)
     ∷ []
 
-function-is : (code : ℕ) (m : List ℕ) (w : Work) → function code m w ≡ look direct code (pick (eqb code 0xF) opr unlistedAction) m w
+pub function-is : (code : ℕ) (m : List ℕ) (w : Work) → function code m w ≡ look direct code (pick (eqb code 0xF) opr unlistedAction) m w
 unfolding function functions
 function-is code m w = refl
 
@@ -86,27 +86,32 @@ direct-listed code b n₂ n₆ n₁₅ h =
     let n : (k : ℕ) → listed k direct ≡ true → code ≡ k → ⊥ = λ k. other direct code k h in
     below code b (above 15 code (above 14 code (above 13 code (above 12 code (above 11 code (above 10 code (above 9 code (above 8 code (above 7 code (above 6 code (above 5 code (above 4 code (above 3 code (above 2 code (above 1 code (above 0 code (omega arith) (n 0 refl)) (n 1 refl)) n₂) (n 3 refl)) (n 4 refl)) (n 5 refl)) n₆) (n 7 refl)) (n 8 refl)) (n 9 refl)) (n 10 refl)) (n 11 refl)) (n 12 refl)) (n 13 refl)) (n 14 refl)) n₁₅)
 
+-- ---- a table each of whose actions has a property K; Q is what the row of a code may ask for
+
+infixr 5 _&_
+pub data Rows (K : Action → Type 0) (Q : ℕ → Type 0) : List (ℕ × Action) → Type 0 where
+  none : Rows K Q []
+  _&_ : {k : ℕ} {a : Action} {t : List (ℕ × Action)} → (Q k → K a) → Rows K Q t → Rows K Q ((k, a) ∷ t)
+
+-- what such a table has at k has it, if the default has it where k has no row
+pub look-rows : (K : Action → Type 0) (Q : ℕ → Type 0) (t : List (ℕ × Action)) (k : ℕ) (d : Action) → Rows K Q t → Q k → (listed k t ≡ false → K d) → K (look t k d)
+look-rows K Q [] k d none asked h = h refl
+look-rows K Q ((n, a) ∷ t) k d (p & q) asked h = go (eqb k n) refl h (look-rows K Q t k d q asked)
+  where
+    go : (b : Bool) → eqb k n ≡ b → (pick b true (listed k t) ≡ false → K d) → ((listed k t ≡ false → K d) → K (look t k d)) → K (pick b a (look t k d))
+    go true e z f = p (subst Q (eqb-true k n e) asked)
+    go false e z f = f z
+
+-- no row asks for anything
+abbrev pub Free : ℕ → Type 0
+Free k = Unit {0}
+
 -- ---- tables whose actions keep work fine
 
 pub Keeps : (ℕ → ℕ → ℕ → Type 0) → Action → Type 0
 Keeps P a = (m : List ℕ) (w : Work) → Fine P w → Fine P (a m w)
 
--- Q is what the row of a code may ask for
-infixr 5 _&_
-pub data AllKeep (P : ℕ → ℕ → ℕ → Type 0) (Q : ℕ → Type 0) : List (ℕ × Action) → Type 0 where
-  none : AllKeep P Q []
-  _&_ : {k : ℕ} {a : Action} {t : List (ℕ × Action)} → (Q k → Keeps P a) → AllKeep P Q t → AllKeep P Q ((k, a) ∷ t)
-
 module _ (P : ℕ → ℕ → ℕ → Type 0) where
-  -- what a table of such has at k, if the default is such where k has no row
-  look-keeps : (Q : ℕ → Type 0) (t : List (ℕ × Action)) (k : ℕ) (d : Action) → AllKeep P Q t → Q k → (listed k t ≡ false → Keeps P d) → Keeps P (look t k d)
-  look-keeps Q [] k d none asked h = h refl
-  look-keeps Q ((n, a) ∷ t) k d (p & q) asked h = go (eqb k n) refl h (look-keeps Q t k d q asked)
-    where
-      go : (b : Bool) → eqb k n ≡ b → (pick b true (listed k t) ≡ false → Keeps P d) → ((listed k t ≡ false → Keeps P d) → Keeps P (look t k d)) → Keeps P (pick b a (look t k d))
-      go true e z f = p (subst Q (eqb-true k n e) asked)
-      go false e z f = f z
-
   -- ---- the kinds of actions
 
   keeps-pure : (g : Core → Core) → Keeps P (pure g)
@@ -132,11 +137,7 @@ module _ (P : ℕ → ℕ → ℕ → Type 0) where
   allowed : (k : ℕ) → canStop k ≡ true → MayStop k → Turns P stop
   allowed k e s = s e
 
-  -- no function asks for anything
-  abbrev Free : ℕ → Type 0
-  Free k = Unit {0}
-
-  all-operations : AllKeep P MayStop operations
+  all-operations : Rows (Keeps P) MayStop operations
   unfolding Keeps operations canStop
   all-operations =
       (λ s. keeps-pure stack.rev) &
@@ -222,7 +223,7 @@ module _ (P : ℕ → ℕ → ℕ → Type 0) where
       (λ s. keeps-pure stack.testhalterr) &
       none
 
-  all-direct : AllKeep P Free direct
+  all-direct : Rows (Keeps P) Free direct
   unfolding Keeps
   all-direct =
       (λ s m w f. fine-j m f) &
@@ -246,13 +247,13 @@ module _ {P : ℕ → ℕ → ℕ → Type 0} where
       → {w : Work} → Fine P w → Fine P (operate code m w)
   unfolding operate Keeps
   fine-operate code m s h {w} f =
-      look-keeps P (MayStop P) operations code unlistedAction (all-operations P) s (λ z m w f. fine-refuse unlisted (h z) f) m w f
+      look-rows (Keeps P) (MayStop P) operations code unlistedAction (all-operations P) s (λ z m w f. fine-refuse unlisted (h z) f) m w f
 
   pub fine-function : (code : ℕ) (m : List ℕ) → Turns P stop → Turns P unlisted → {w : Work} → Fine P w → Fine P (function code m w)
   unfolding Keeps
   fine-function code m s h {w} f =
       subst (Fine P) (sym (function-is code m w))
-      (look-keeps P (Free P) direct code (pick (eqb code 0xF) opr unlistedAction) (all-direct P) tt
+      (look-rows (Keeps P) Free direct code (pick (eqb code 0xF) opr unlistedAction) (all-direct P) tt
       (λ z. on-pick (Keeps P) (eqb code 0xF) (λ m w f. fine-operate _ m (λ z. s) (λ z. h) f) (λ m w f. fine-refuse unlisted h f)) m w f)
 
   -- the functions of a byte but opr (and the prefixes) are never refused with 9, and never Stop
@@ -260,4 +261,4 @@ module _ {P : ℕ → ℕ → ℕ → Type 0} where
   unfolding Keeps
   fine-direct code m b n₂ n₆ n₁₅ {w} f =
       subst (Fine P) (sym (function-is code m w))
-      (look-keeps P (Free P) direct code (pick (eqb code 0xF) opr unlistedAction) (all-direct P) tt (λ z. absurd (direct-listed code b n₂ n₆ n₁₅ z)) m w f)
+      (look-rows (Keeps P) Free direct code (pick (eqb code 0xF) opr unlistedAction) (all-direct P) tt (λ z. absurd (direct-listed code b n₂ n₆ n₁₅ z)) m w f)

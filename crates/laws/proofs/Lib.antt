@@ -23,3 +23,5 @@ pub mod AlikeData
 pub mod AlikeLinks
 pub mod AlikeTimers
 pub mod AlikeChannels
+pub mod AlikeOperations
+pub mod AlikeStep
