@@ -1,4 +1,5 @@
--- A contract that is one equation has one result: no second answer meets it (01, What the contracts have to say). Assumes nothing.
+-- 01's number determines the answer, and what a call comes to determines its reply, memory and journal: no second answer meets a contract that
+-- is an equation of outcomes (01, What the contracts have to say). Assumes nothing.
 use mathlib.Core.Path.{_≡_, refl, sym, ap, _∙_}
 use mathlib.Core.Bool.{Bool, true, false}
 use mathlib.Core.List.{List, [], _∷_}
@@ -13,10 +14,6 @@ use Rattle.rules.specs.declared.Reply.{Reply}
 use Rattle.rules.specs.declared.Answer.{Answer}
 use Rattle.rules.specs.declared.Answer.the-variants.{Done, Size, CodeSize, BadChannel, JournalBad, NothingToUndo, Halted, Idle, NotReady, Unlisted, Outside, Stop, JournalFull}
 use Rattle.laws.specs.Answers.{answers, answerOf}
-
--- two results of one definition
-pub one-result : {A : Type 0} {r s t : A} → r ≡ t → s ≡ t → r ≡ s
-one-result a b = a ∙ sym b
 
 -- ---- 01's number determines the answer
 

@@ -49,7 +49,7 @@ module _ (m : List ℕ) where
   unfoldable pub readyWaiting : ℕ → Work → Work
   readyWaiting content w = run m content (wIndexWord m (wptrOf content) pointerS ready w)
 
-  -- the IF on status (000 1.8); none of the three is Stop (DECISIONS 26)
+  -- the IF on status (000 1.8, HandleChannelRequest); any status but the three is a Stop (DECISIONS 26)
   unfoldable pub readyStatus : ℕ → ℕ → Work → Work
   readyStatus content status w =
       ifEq status enabling (wIndexWord m (wptrOf content) pointerS ready w)
@@ -109,7 +109,7 @@ module _ (m : List ℕ) where
   unfoldable pub softWait : Work → Work
   softWait w = gotoSNP (saveRegsPendingSoftIO w)
 
-  -- the message is moved, then the partner runs (BlockMoveFinalStep); 000's parameters are references (DECISIONS 14)
+  -- the message is moved, then the partner runs (000 1.10, BlockMoveFinalStep); 000's parameters are references (DECISIONS 14)
   unfoldable pub moveMessage : ℕ → Work → Work
   moveMessage procDesc w =
       run m procDesc (moveDone (reg areg w) (transfer m (reg creg w) (reg breg w) (reg areg w) w))

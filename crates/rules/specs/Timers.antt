@@ -43,7 +43,7 @@ module _ (m : List ℕ) where
   unfoldable pub timedOut : ℕ → ℕ → Work → Work
   timedOut queue front w = run m (bitOr front queue) (wIndexWord m front pointerS ready w)
 
-  -- the IF on status (000 1.8); neither value is Stop (DECISIONS 26)
+  -- the IF on status (000 1.8, HandleTimerRequest); any other value is a Stop (DECISIONS 26)
   unfoldable pub timerStatus : ℕ → ℕ → ℕ → Work → Work
   timerStatus queue front status w =
       ifEq status ready w (ifEq status waiting (timedOut queue front w) (refuse stop w))
@@ -174,7 +174,7 @@ module _ (m : List ℕ) where
       (timeNow (wIndexWord m (wptr w) stateS ready w))
       (insertFirstStep (nextTime w))
 
-  -- the IF on Breg (000 1.11, timer alt wait); neither mark is Stop (DECISIONS 26)
+  -- the IF on Breg (000 1.11, timer alt wait); any word but the two marks is a Stop (DECISIONS 26)
   unfoldable pub taltwtLink : Work → Work
   taltwtLink w =
       ifEq (reg breg w) timeNotSet (wait m w)
@@ -197,7 +197,7 @@ module _ (m : List ℕ) where
   unfoldable pub enbtEarlier : ℕ → Work → Work
   enbtEarlier time w = pick (later time (reg breg w)) (wIndexWord m (wptr w) timeS (reg breg w) w) w
 
-  -- the IF on temp (000 1.11, enable timer); neither mark is Stop (DECISIONS 26)
+  -- the IF on temp (000 1.11, enable timer); any word but the two marks is a Stop (DECISIONS 26)
   unfoldable pub enbtLink : ℕ → Work → Work
   enbtLink link w =
       ifEq link timeNotSet (enbtFirst w)

@@ -51,6 +51,39 @@ fn decision_16_timer_1_asks_for_low_priority() {
     );
 }
 
+/// The run of DECISIONS 16. The process started by the code comes to the state of 17's trace; the
+/// first one waits for low time 4.
+#[test]
+fn decision_16_timer_1_is_served_with_goto_snp_set() {
+    let code = [
+        0xBF, 0x40, 0x25, 0xF4, 0x45, 0x25, 0x10, 0xFD, 0x43, 0x22, 0xFB, 0x21, 0xF5, 0xB8, 0x24,
+        0xF2, 0x21, 0x11, 0xE0, 0x4E, 0x21, 0xFB, 0x1F, 0xE0, 0x21, 0x10, 0x23, 0xF9, 0x10, 0x21,
+        0x11, 0x44, 0xFB, 0x81, 0x21, 0xF5, 0x24, 0xF3, 0x11, 0x41, 0x24, 0xF8, 0x24, 0xF4, 0x11,
+        0x41, 0x40, 0x22, 0xFF, 0x24, 0xF5, 0x12, 0x11, 0x44, 0xF7, 0x21, 0xF5,
+    ];
+    let mut rig = Rig::fresh(256, &code);
+    rig.jou.resize(65_536, 0);
+    rig.steps(52);
+    let adc = MEM_START + 33;
+    assert_eq!(
+        (rig.get(STATUS), rig.get(A), rig.get(IPTR)),
+        (GOTO_SNP, 4, adc)
+    );
+    for _ in 0..256 {
+        assert_eq!(rig.tick(), 0);
+    }
+    assert_eq!((rig.get(CLOCK[1]), rig.get(TNEXT[1])), (4, 4));
+    let front = rig.at(TIMER_BASE, 1);
+    rig.steps(1);
+    assert_eq!(
+        (rig.at(TIMER_BASE, 1), rig.at(front, STATE_S)),
+        (NOT_PROCESS, READY)
+    );
+    assert_eq!((rig.get(STATUS), rig.get(A), rig.get(IPTR)), (0, 4, adc));
+    rig.steps(1);
+    assert_eq!((rig.get(A), rig.get(FPTR[1])), (5, front));
+}
+
 #[test]
 fn timer_0_comes_before_timer_1_and_channels_before_both() {
     let mut rig = due(0, 1);
@@ -228,6 +261,26 @@ fn decision_20_and_21_what_an_interrupt_saves() {
         .set(flags_of(3), RUN_REQUEST)
         .steps(1);
     assert_eq!(rig.mem[11..18], [NO_LOW_PROCESS, 0, 0, 0, 0, 0, 0]);
+}
+
+/// An `in` or `out` of the low process at W whose partner, the high process P, waits on the channel.
+#[test]
+fn decision_21_a_message_that_begins_with_bit_3_set() {
+    for code in [0x07, 0x0B] {
+        for (status, word_17) in [(MOVE_BIT, 0), (0, 77)] {
+            let mut rig = Rig::quiet();
+            rig.put(P, POINTER_S, word(40)).put(Q, 0, P);
+            rig.set(STATUS, status)
+                .stack(4, Q, word(45))
+                .put(SAVE_BASE, 6, 77)
+                .op(code);
+            assert_eq!((rig.get(WDESC), rig.get(STATUS)), (P, status));
+            assert_eq!(
+                (rig.mem[11], rig.mem[16..18].to_vec()),
+                (W | 1, vec![status, word_17])
+            );
+        }
+    }
 }
 
 #[test]
