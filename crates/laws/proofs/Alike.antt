@@ -31,10 +31,10 @@ Is n k a number kind address = (number ≡ n) × (kind ≡ k) × (address ≡ a)
 abbrev pub Stays : (List ℕ → Work → Work) → Type 0
 Stays g = (mem : List ℕ) (n k a : ℕ) → ((number : ℕ) → Turns (Is n k a) number) → (w : Work) → Fine (Is n k a) w → Fine (Is n k a) (g mem w)
 
-never-turns : (n k a : ℕ) → (n ≡ 0 → ⊥) → (number : ℕ) → Turns (Is n k a) number
+pub never-turns : (n k a : ℕ) → (n ≡ 0 → ⊥) → (number : ℕ) → Turns (Is n k a) number
 never-turns n k a h number k′ a′ z kind address = absurd (h (sym (z .0)))
 
-as-is : (w : Work) → (w .answer ≡ 0 → ⊥) → length (w .regs) ≡ registers → Fine (Is (w .answer) (w .kind) (w .address)) w
+pub as-is : (w : Work) → (w .answer ≡ 0 → ⊥) → length (w .regs) ≡ registers → Fine (Is (w .answer) (w .kind) (w .address)) w
 as-is w h c = record { count = c; known = (refl, refl, refl); ten = never-turns (w .answer) (w .kind) (w .address) h outside }
 
 pub refused-with : (number : ℕ) (w : Work) → w .answer ≡ 0 → refuse number w .answer ≡ number

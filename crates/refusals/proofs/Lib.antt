@@ -1,3 +1,4 @@
 pub mod Built
 pub mod Own
 pub mod Exactly
+pub mod Outside

@@ -37,7 +37,7 @@ never e = absurd (let z : _≡_ {A = ℕ} 0 1 = cc in omega arith)
 
 module _ (r mem : List ℕ) where
   -- what a step does where it is not idle: a request or a timer is served, or an instruction is fetched
-  by-choice : (Q : Work → Type 0) → isIdle r ≡ false
+  pub by-choice : (Q : Work → Type 0) → isIdle r ≡ false
       → (fetches r ≡ false → Q (actOnSNP mem (handleChannelRequest mem (requested (begin r)) (begin r))))
       → ((n : ℕ) → fetches r ≡ false → Q (actOnSNP mem (handleTimerRequest mem n (begin r))))
       → (fetches r ≡ true → Q (instruction mem (begin r)))

@@ -1,1 +1,2 @@
 pub mod Conditions
+pub mod Outside
