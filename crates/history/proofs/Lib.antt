@@ -9,6 +9,7 @@ pub mod Unique
 pub mod Refused
 pub mod Exactly
 pub mod Public
+pub mod Functions
 pub mod Worked
 pub mod Wrong
 pub mod Counted

@@ -28,7 +28,8 @@ use Rattle.history.specs.Machine.{Act, call}
 use Rattle.history.specs.T414.{Call, step, Whole, after, run}
 use Rattle.history.specs.Contracts.{FreshContract, StepContract, TickContract, TakeContract, GiveContract, EventContract, UndoContract, ClearContract, number}
 use Rattle.history.specs.Chain.{left, Chain}
-use Rattle.history.specs.Functions.{Function, Meets, RefusesAlways, AnswersOnly, LeavesRegisters, LeavesDepth, LeavesMemory, ThenMovesIptr, TwoAnswers}
+use Rattle.history.specs.Functions.{Function, Meets}
+use Rattle.history.specs.Wrong.{RefusesAlways, AnswersOnly, LeavesRegisters, LeavesDepth, LeavesMemory, ThenMovesIptr, TwoAnswers}
 use Rattle.history.proofs.Public.{chain-run}
 
 -- ---- the states: fresh with code 41 81, with clocks that run and link 0 moving one byte; after one step of it; and no memory at all

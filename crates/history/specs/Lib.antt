@@ -4,3 +4,4 @@ pub mod Contracts
 pub mod Given
 pub mod Chain
 pub mod Functions
+pub mod Wrong

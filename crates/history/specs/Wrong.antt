@@ -1,0 +1,49 @@
+-- 01's wrong functions, as properties of a function: refusing always, one fixed answer, leaving the machine as it was, an undo that does nothing,
+-- the first step properly and then only moving Iptr (01, What the contracts have to say).
+use mathlib.Core.Path.{_≡_}
+use mathlib.Core.List.{List}
+use Prim.Native.Nat.{ℕ}
+use lib.ListN.{getD}
+use Rattle.rules.specs.Registers.{iptrReg}
+use Rattle.rules.specs.Calls as rules
+use Rattle.rules.specs.declared.Machine.{Machine}
+use Rattle.history.specs.Contracts.{Contract, StepContract, number}
+use Rattle.history.specs.Functions.{Function, EveryCall, Meets}
+
+-- refusing always (01, What the contracts have to say)
+abbrev pub RefusesAlways : Function → Type 0
+RefusesAlways = EveryCall (λ m mem j r. number (r .reply) ≡ 0 → ⊥)
+
+-- one fixed answer, the number n (01, What the contracts have to say)
+abbrev pub AnswersOnly : ℕ → Function → Type 0
+AnswersOnly n = EveryCall (λ m mem j r. number (r .reply) ≡ n)
+
+-- leaving the machine as it was: the registers. Of undo: doing nothing (01, What the contracts have to say)
+abbrev pub LeavesRegisters : Function → Type 0
+LeavesRegisters = EveryCall (λ m mem j r. r .reply .machine .regs ≡ m .regs)
+
+-- leaving the machine as it was: the depth, which clear makes 0 (01, What the contracts have to say)
+abbrev pub LeavesDepth : Function → Type 0
+LeavesDepth = EveryCall (λ m mem j r. r .reply .machine .depth ≡ m .depth)
+
+-- leaving the machine as it was: of fresh, the memory (01, What the contracts have to say)
+abbrev pub LeavesMemory : Function → Type 0
+LeavesMemory = EveryCall (λ m mem j r. r .memory ≡ mem)
+
+-- only moving Iptr: where a record stands already, no other register changes (01, What the contracts have to say)
+abbrev pub ThenMovesIptr : Function → Type 0
+ThenMovesIptr =
+    EveryCall
+    (λ m mem j r. (m .depth ≡ 0 → ⊥) → (k : ℕ) → (k ≡ iptrReg → ⊥) → getD (r .reply .machine .regs) k 0 ≡ getD (m .regs) k 0)
+
+-- running the first step properly and then only moving Iptr: where no record stands it meets the contract. It goes on: where the rules accept a
+-- step, so does it. One that refuses from then on falls to demand 2 alone, since no call is left to be told (01, What the contracts have to say)
+pub record FirstThenIptr (f : Function) : Type 0 where
+  pub first : EveryCall (λ m mem j r. m .depth ≡ 0 → StepContract m mem j (r .reply) (r .memory) (r .journal)) f
+  pub then : ThenMovesIptr f
+  pub goes-on : EveryCall (λ m mem j r. rules.step m mem j .answer ≡ 0 → number (r .reply) ≡ 0) f
+
+-- neither a function that refuses always nor one with one fixed answer meets the contract (01, What the contracts have to say)
+pub record TwoAnswers (C : Machine → Contract) : Type 0 where
+  pub not-refusing : (f : Function) → RefusesAlways f → Meets C f → ⊥
+  pub not-fixed : (f : Function) (n : ℕ) → AnswersOnly n f → Meets C f → ⊥
