@@ -36,12 +36,14 @@ ThenMovesIptr =
     EveryCall
     (λ m mem j r. (m .depth ≡ 0 → ⊥) → (k : ℕ) → (k ≡ iptrReg → ⊥) → getD (r .reply .machine .regs) k 0 ≡ getD (m .regs) k 0)
 
--- running the first step properly and then only moving Iptr: where no record stands it meets the contract. It goes on: where the rules accept a
--- step, so does it. One that refuses from then on falls to demand 2 alone, since no call is left to be told (01, What the contracts have to say)
-pub record FirstThenIptr (f : Function) : Type 0 where
-  pub first : EveryCall (λ m mem j r. m .depth ≡ 0 → StepContract m mem j (r .reply) (r .memory) (r .journal)) f
-  pub then : ThenMovesIptr f
-  pub goes-on : EveryCall (λ m mem j r. rules.step m mem j .answer ≡ 0 → number (r .reply) ≡ 0) f
+-- running the first step properly: it meets the contract where no record stands (01, What the contracts have to say)
+abbrev pub FirstProperly : Function → Type 0
+FirstProperly = EveryCall (λ m mem j r. m .depth ≡ 0 → StepContract m mem j (r .reply) (r .memory) (r .journal))
+
+-- going on: where the rules accept a step, so does it. A step that refuses from then on falls to demand 2 alone: it leaves what the calls that
+-- stand give (01, What the contracts have to say)
+abbrev pub GoesOn : Function → Type 0
+GoesOn = EveryCall (λ m mem j r. rules.step m mem j .answer ≡ 0 → number (r .reply) ≡ 0)
 
 -- neither a function that refuses always nor one with one fixed answer meets the contract (01, What the contracts have to say)
 pub record TwoAnswers (C : Machine → Contract) : Type 0 where
