@@ -13,4 +13,5 @@ pub mod Functions
 pub mod Worked
 pub mod Wrong
 pub mod Counted
+pub mod Loose
 pub mod Demands

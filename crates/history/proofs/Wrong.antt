@@ -3,9 +3,10 @@
 -- does not hold. Each by states on which the rules are computed. An invented depth or used: Counted.antt. Assumes nothing.
 use mathlib.Core.Path.{_≡_, refl, sym, ap, _∙_}
 use mathlib.Core.List.{List, [], _∷_}
-use Prim.Native.Nat.{ℕ}
+use Prim.Native.Nat.{ℕ, _+_}
 use native.Mathlib.Omega.{arith}
 use lib.ListN.{length, getD, set, replicate}
+use lib.Seq.{getD-set-other}
 use Rattle.rules.specs.Tests.{ifLt, ifLe, ifEq}
 use Rattle.rules.specs.Words.{sign, restoreToRange, overflows}
 use Rattle.rules.specs.Core.{overflowCheck}
@@ -23,6 +24,8 @@ use Rattle.rules.specs.Journal.{olds, recordOf, frameBad, lastPairs, lastStart,
 use Rattle.rules.specs.Calls.{Outcome, outcomeOf, memoryBad, journalBad, sizeBad, codeBad, notOutput, notInput, recorded, settled, checked, undone, undoLast, codeWord, freshWord, freshMemory, freshRegs, machineOf, fresh}
 use Rattle.rules.specs.Calls as rules
 use Rattle.rules.specs.declared.Machine.{Machine}
+use Rattle.rules.proofs.Tests.{yes-eq, no-eq, cases-eq}
+use Rattle.laws.proofs.Unique.{number-answer}
 use Rattle.laws.proofs.Calls.{kept-step, kept-fresh}
 use Rattle.history.specs.Machine.{call, undo}
 use Rattle.history.specs.T414.{step, Whole, after, Plain}
@@ -30,6 +33,8 @@ use Rattle.history.specs.Contracts.{FreshContract, StepContract, TickCon
 use Rattle.history.specs.Chain.{stands, worked, given, plain}
 use Rattle.history.specs.Functions.{Result, Function, Meets, MeetsFresh, Functions, handsOn, made, ran, answers, stood, Reversible}
 use Rattle.history.specs.Wrong.{RefusesAlways, AnswersOnly, LeavesRegisters, LeavesDepth, LeavesMemory, ThenMovesIptr, FirstProperly, GoesOn, TwoAnswers}
+use Rattle.history.proofs.Unique.{told}
+use Rattle.history.proofs.Functions.{resultOf}
 
 -- ---- the states: fresh with code 41 81, with clocks that run and link 0 moving one byte; after one step of it; and no memory at all
 
@@ -295,3 +300,30 @@ module _ (F : Functions) (f : MeetsFresh (F .fresh)) (p : FirstProperly (F .step
       ∙ ap (λ (x : Plain). getD (x .regs) areg 0) (state ∙ ap (λ (x : Whole). given (plain x) (step ∷ step ∷ [])) there-is)
       ∙ computed-start .4 in
       omega (arith, e)
+
+-- ---- and there are such functions
+
+-- an undo that is accepted and changes nothing
+abbrev idleUndo : Function
+idleUndo m mem j = resultOf (rules.refused 0 m mem j)
+
+-- the step of the rules where no record stands; else Iptr is moved by one, and a call is counted
+abbrev iptrStep : Function
+iptrStep m mem j =
+    resultOf
+    (ifEq (m .depth) 0 (rules.step m mem j)
+    (record {
+      answer = 0;
+      byte = 0;
+      machine = machineOf (set (m .regs) iptrReg (getD (m .regs) iptrReg 0 + 1)) (m .depth + 1) (m .used);
+      memory = mem;
+      journal = j;
+    }))
+
+pub wrong-exist : LeavesRegisters idleUndo × FirstProperly iptrStep × ThenMovesIptr iptrStep × GoesOn iptrStep
+wrong-exist = (
+  λ m h mem j. refl,
+  λ m h mem j e. rw (yes-eq e) (told _ (kept-step m mem j h .known)),
+  λ m h mem j e k d. rw (no-eq e) (getD-set-other (m .regs) iptrReg k _ 0 d),
+  λ m h mem j a. cases-eq (m .depth) 0 (λ e. rw (yes-eq e) (number-answer (rules.step m mem j .answer) (kept-step m mem j h .known) ∙ a)) (λ e. rw (no-eq e) (number-answer 0 (omega arith))),
+)
