@@ -7,17 +7,17 @@ use mathlib.Core.List.{List}
 use Prim.Native.Nat.{ℕ, _+_, _-_}
 use native.Mathlib.Omega.{arith}
 use lib.ListN.{length}
-use Rattle.rules.specs.Work.{Work, begin}
-use Rattle.rules.specs.Links as links
-use Rattle.rules.specs.Step as steps
+use Rattle.rules.specs.Memory.{touched}
+use Rattle.rules.specs.Work.{Work}
 use Rattle.rules.specs.Journal.{recordLength, frameBad, lastPairs, lastStart, pairsAt, strays}
 use Rattle.rules.specs.Calls.{Outcome, outcomeOf, sizeBad, codeBad, notOutput, notInput, recorded, settled, checked, undone, undoLast}
 use Rattle.rules.specs.Calls as rules
 use Rattle.rules.specs.declared.Machine.{Machine}
 use Rattle.rules.specs.declared.Reply.{Reply}
 use Rattle.rules.proofs.Tests.{yes-eq, no-eq, cases-eq, on-pick, on-lt, on-eq}
+use Rattle.history.specs.T414.{step, tick, take, give, event}
 use Rattle.history.specs.Contracts.{FreshContract, StepContract, TickContract, TakeContract, GiveContract, EventContract, UndoContract, ClearContract, number}
-use Rattle.history.specs.Counted.{Counted, wordsStored, oneMore, oneLess, noRecord}
+use Rattle.history.specs.Counted.{Counted, oneMore, oneLess, noRecord}
 
 -- where it is accepted, depth and used become these
 pub record Counts (depth used : ℕ) (o : Outcome) : Type 0 where
@@ -37,7 +37,7 @@ module _ (d u : ℕ) where
 module _ (m : Machine) (mem j : List ℕ) where
   -- one record more
   abbrev pub Adds : Work → Outcome → Type 0
-  Adds w o = Counts (m .depth + 1) (m .used + recordLength (wordsStored mem w)) o
+  Adds w o = Counts (m .depth + 1) (m .used + recordLength (length (touched (length mem) (w .stored)))) o
 
   counts-settled : (byte : ℕ) (w : Work) → Adds w (settled m mem j byte w)
   unfolding settled recorded
@@ -64,23 +64,23 @@ counted : (d u : ℕ) (o : Outcome) → Counts d u o → (r : Reply) (mem j : Li
 counted d u o c r mem j e z = subst (λ (x : Outcome). Counts d u x) (sym e) c .counts z
 
 module _ (m : Machine) where
-  pub step-counted : Counted (StepContract m) (oneMore m (λ mem. steps.step mem (begin (m .regs))))
+  pub step-counted : Counted (StepContract m) (oneMore step m)
   unfolding rules.step
   step-counted mem j r mem′ j′ e z = counted _ _ _ (counts-checked _ _ _ m mem j _ (counts-settled m mem j _ _)) r mem′ j′ e z
 
-  pub tick-counted : Counted (TickContract m) (oneMore m (λ mem. links.tick (begin (m .regs))))
+  pub tick-counted : Counted (TickContract m) (oneMore tick m)
   unfolding rules.tick
   tick-counted mem j r mem′ j′ e z = counted _ _ _ (counts-checked _ _ _ m mem j _ (counts-settled m mem j _ _)) r mem′ j′ e z
 
-  pub take-counted : (channel : ℕ) → Counted (TakeContract channel m) (oneMore m (λ mem. links.take mem channel (begin (m .regs))))
+  pub take-counted : (channel : ℕ) → Counted (TakeContract channel m) (oneMore (take channel) m)
   unfolding rules.take
   take-counted channel mem j r mem′ j′ e z = counted _ _ _ (counts-checked _ _ _ m mem j _ (counts-settled m mem j _ _)) r mem′ j′ e z
 
-  pub give-counted : (channel byte : ℕ) → Counted (GiveContract channel byte m) (oneMore m (λ mem. links.give mem channel byte (begin (m .regs))))
+  pub give-counted : (channel byte : ℕ) → Counted (GiveContract channel byte m) (oneMore (give channel byte) m)
   unfolding rules.give
   give-counted channel byte mem j r mem′ j′ e z = counted _ _ _ (counts-checked _ _ _ m mem j _ (counts-settled m mem j _ _)) r mem′ j′ e z
 
-  pub event-counted : Counted (EventContract m) (oneMore m (λ mem. links.event (begin (m .regs))))
+  pub event-counted : Counted (EventContract m) (oneMore event m)
   unfolding rules.event
   event-counted mem j r mem′ j′ e z = counted _ _ _ (counts-checked _ _ _ m mem j _ (counts-settled m mem j _ _)) r mem′ j′ e z
 
