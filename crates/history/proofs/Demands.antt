@@ -106,7 +106,7 @@ module _
 
 -- ---- demand 3, of functions
 
--- any eight functions that meet the contracts satisfy it, the same four things (specs/Functions.antt)
+-- any eight functions that meet the contracts satisfy it, run from fresh: the same four things, and they do again what they did (specs/Functions.antt)
 pub functions-demand : (F : Functions) → MeetContracts F → Reversible F
 functions-demand = reversible
 

@@ -14,7 +14,7 @@ use Rattle.history.specs.T414 as calls
 use Rattle.history.specs.Contracts.{FreshContract}
 use Rattle.history.specs.Chain.{Met, Chain, ended, stands}
 use Rattle.history.specs.Chain as chains
-use Rattle.history.specs.Functions.{Result, Functions, MeetContracts, handsOn, made, ran, answers, stood, GivenBack, Kept, Reversible}
+use Rattle.history.specs.Functions.{Result, Functions, MeetContracts, handsOn, made, ran, answers, stood, GivenBack, HistoryHolds, Reversible}
 use Rattle.history.proofs.Unique.{replyOf, told}
 use Rattle.history.proofs.Calls.{Whole45, kept}
 use Rattle.history.proofs.T414.{Emptied}
@@ -91,6 +91,7 @@ module _ (F : Functions) (M : MeetContracts F) where
       record {
         state = public-history code mem j _ _ _ fresh acts _ _ all .0;
         depth = public-history code mem j _ _ _ fresh acts _ _ all .1;
+        records = public-records code mem j _ _ _ fresh acts _ _ all .0;
         alone = public-records code mem j _ _ _ fresh acts _ _ all .0 ∙ ap shown (sym (ran-is (inOrder k) s h));
         stand-alone = stood-is (inOrder k) s h ∙ public-records code mem j _ _ _ fresh acts _ _ all .1;
         undoing = back;

@@ -5,6 +5,7 @@ use mathlib.Core.Path.{_≡_, refl, sym, ap, _∙_}
 use mathlib.Core.List.{List, [], _∷_}
 use Prim.Native.Nat.{ℕ, _+_}
 use native.Mathlib.Omega.{arith}
+use borrow.Author.Tests.{ne-eqb}
 use lib.ListN.{length, getD, set, replicate}
 use lib.Seq.{getD-set-other}
 use Rattle.rules.specs.Tests.{ifLt, ifLe, ifEq}
@@ -32,7 +33,7 @@ use Rattle.history.specs.T414.{step, Whole, after, Plain}
 use Rattle.history.specs.Contracts.{FreshContract, StepContract, TickContract, TakeContract, GiveContract, EventContract, UndoContract, ClearContract, number}
 use Rattle.history.specs.Chain.{stands, worked, given, plain}
 use Rattle.history.specs.Functions.{Result, Function, Meets, MeetsFresh, Functions, handsOn, made, ran, answers, stood, Reversible}
-use Rattle.history.specs.Wrong.{RefusesAlways, AnswersOnly, LeavesRegisters, LeavesDepth, LeavesMemory, ThenMovesIptr, FirstProperly, GoesOn, TwoAnswers}
+use Rattle.history.specs.Wrong.{RefusesAlways, AnswersOnly, LeavesRegisters, LeavesDepth, LeavesMemory, ThenMovesIptr, FirstProperly, MovesOn, TwoAnswers}
 use Rattle.history.proofs.Unique.{told}
 use Rattle.history.proofs.Functions.{resultOf}
 
@@ -283,23 +284,42 @@ module _ (F : Functions) (f : MeetsFresh (F .fresh)) (p : FirstProperly (F .step
       ∙ aregs .0 in
       omega (arith, e)
 
-  -- a step that then only moves Iptr: it is accepted, so that two steps stand; and A is still 1, not 2
-  pub step-iptr-moved : ThenMovesIptr (F .step) → GoesOn (F .step) → Reversible F → ⊥
+  -- a step that then only moves Iptr: where it is accepted, two steps stand, and A is still 1, not 2; where it is refused, one stands, but Iptr
+  -- is not what that one gives
+  pub step-iptr-moved : ThenMovesIptr (F .step) → MovesOn (F .step) → Reversible F → ⊥
   unfolding ran answers stands given
-  step-iptr-moved w g d =
-      let again : Result = made F (call step) (handsOn first) in
-      let accepted : number (again .reply) ≡ 0 =
-      g (handsOn first .machine) first45 (handsOn first .memory) (handsOn first .journal) (ap (λ (x : Whole). at rules.step x .answer) first-leaves ∙ computed-start .3) in
-      let state : plain (handsOn again) ≡ given (plain there) (step ∷ step ∷ []) =
-      rw (first-accepted, accepted) at (d code lent paper (call step ∷ call step ∷ []) .state) in
-      let stays : aregOf (handsOn again) ≡ aregOf (handsOn first) =
-      w (handsOn first .machine) first45 (handsOn first .memory) (handsOn first .journal) (λ z. omega (arith, z, ap (λ (x : Whole). x .machine .depth) first-leaves, computed-start .2)) areg (λ z. omega (arith, z)) in
-      let e : _≡_ {A = ℕ} 1 2 =
-      sym (aregs .1)
-      ∙ sym stays
-      ∙ ap (λ (x : Plain). getD (x .regs) areg 0) (state ∙ ap (λ (x : Whole). given (plain x) (step ∷ step ∷ [])) there-is)
-      ∙ computed-start .4 in
-      omega (arith, e)
+  step-iptr-moved w g d = cases-eq (number (again .reply)) 0 accepted refused
+    where
+      again : Result
+      again = made F (call step) (handsOn first)
+
+      stays : aregOf (handsOn again) ≡ aregOf (handsOn first)
+      stays =
+          w (handsOn first .machine) first45 (handsOn first .memory) (handsOn first .journal)
+          (λ z. omega (arith, z, ap (λ (x : Whole). x .machine .depth) first-leaves, computed-start .2))
+          areg
+          (λ z. omega (arith, z))
+
+      accepted : number (again .reply) ≡ 0 → ⊥
+      accepted a =
+          let state : plain (handsOn again) ≡ given (plain there) (step ∷ step ∷ []) =
+          rw (first-accepted, a) at (d code lent paper (call step ∷ call step ∷ []) .state) in
+          let e : _≡_ {A = ℕ} 1 2 =
+          sym (aregs .1)
+          ∙ sym stays
+          ∙ ap (λ (x : Plain). getD (x .regs) areg 0) (state ∙ ap (λ (x : Whole). given (plain x) (step ∷ step ∷ [])) there-is)
+          ∙ computed-start .4 in
+          omega (arith, e)
+
+      refused : (number (again .reply) ≡ 0 → ⊥) → ⊥
+      refused n =
+          let before : plain (handsOn first) ≡ given (plain there) (step ∷ []) = rw first-accepted at (d code lent paper (call step ∷ []) .state) in
+          let state : plain (handsOn again) ≡ given (plain there) (step ∷ []) =
+          rw (first-accepted, ne-eqb (number (again .reply)) 0 n) at (d code lent paper (call step ∷ call step ∷ []) .state) in
+          g (handsOn first .machine) first45 (handsOn first .memory) (handsOn first .journal)
+          (ap (λ (x : Whole). at rules.step x .answer) first-leaves ∙ computed-start .3)
+          n
+          (ap (λ (x : Plain). getD (x .regs) iptrReg 0) (state ∙ sym before))
 
 -- ---- and there are such functions
 
@@ -320,10 +340,10 @@ iptrStep m mem j =
       journal = j;
     }))
 
-pub wrong-exist : LeavesRegisters idleUndo × FirstProperly iptrStep × ThenMovesIptr iptrStep × GoesOn iptrStep
+pub wrong-exist : LeavesRegisters idleUndo × FirstProperly iptrStep × ThenMovesIptr iptrStep × MovesOn iptrStep
 wrong-exist = (
   λ m h mem j. refl,
   λ m h mem j e. rw (yes-eq e) (told _ (kept-step m mem j h .known)),
   λ m h mem j e k d. rw (no-eq e) (getD-set-other (m .regs) iptrReg k _ 0 d),
-  λ m h mem j a. cases-eq (m .depth) 0 (λ e. rw (yes-eq e) (number-answer (rules.step m mem j .answer) (kept-step m mem j h .known) ∙ a)) (λ e. rw (no-eq e) (number-answer 0 (omega arith))),
+  λ m h mem j a n. absurd (n (cases-eq (m .depth) 0 (λ e. rw (yes-eq e) (number-answer (rules.step m mem j .answer) (kept-step m mem j h .known) ∙ a)) (λ e. rw (no-eq e) (number-answer 0 (omega arith))))),
 )

@@ -8,7 +8,7 @@ use Rattle.rules.specs.Registers.{registers}
 use Rattle.rules.specs.declared.Machine.{Machine}
 use Rattle.rules.specs.declared.Reply.{Reply}
 use Rattle.history.specs.Machine.{Act, call, undo, inOrder}
-use Rattle.history.specs.T414.{Call, step, tick, give, event, Whole, shown}
+use Rattle.history.specs.T414.{Call, step, tick, give, event, Whole, run, shown}
 use Rattle.history.specs.T414 as calls
 use Rattle.history.specs.Contracts.{Contract, FreshContract, StepContract, TickContract, TakeContract, GiveContract, EventContract, UndoContract, ClearContract, number}
 use Rattle.history.specs.Chain.{left, stands, given, plain}
@@ -102,14 +102,16 @@ module _ (F : Functions) where
     pub others-stood : stood calls-before s ≡ drop n (stood acts s)
     pub as-then : shown (ran (replicate n undo) (ran acts s)) ≡ shown (ran calls-before s)
 
-  -- demand 3 of one sequence of calls from s. What a call gives is what the rules give for it (`given`): a comparison of the functions with
-  -- themselves alone (`alone`) would pass a step that only moves Iptr, since it does so each time (01, What the contracts have to say: demand 3)
-  pub record Kept (s : Whole) (acts : List (Act Call)) : Type 0 where
+  -- demand 3 of one sequence of calls from s. What a call gives is what the rules give for it (`given`): a step that only moves Iptr does so each
+  -- time, so that to hold the functions against themselves (`alone`) would not be enough (01, What the contracts have to say: demand 3)
+  pub record HistoryHolds (s : Whole) (acts : List (Act Call)) : Type 0 where
     -- registers and all memory are what the calls that stand give, in order
     pub state : plain (ran acts s) ≡ given (plain s) (stood acts s)
     -- depth is their number
     pub depth : ran acts s .machine .depth ≡ length (stood acts s)
-    -- all that shows, used and the journal's words in use too, is what they leave when they alone are made; in that none is refused
+    -- all that shows, used and the journal's words in use too, is what the rules leave when these calls alone are made
+    pub records : shown (ran acts s) ≡ shown (run (inOrder (stood acts s)) s)
+    -- and what the functions themselves then leave; none is refused
     pub alone : shown (ran acts s) ≡ shown (ran (inOrder (stood acts s)) s)
     pub stand-alone : stood (inOrder (stood acts s)) s ≡ stood acts s
     -- undoing n, where at least n stand, gives back what was before them
@@ -118,4 +120,4 @@ module _ (F : Functions) where
   -- DEMAND 3: from fresh, with any code, memory and journal, after any sequence of steps, ticks, takes, gives, events and undos, some refused
   -- (01, What the contracts have to say: demand 3)
   abbrev pub Reversible : Type 0
-  Reversible = (code mem j : List ℕ) (acts : List (Act Call)) → Kept (handsOn (F .fresh code mem j)) acts
+  Reversible = (code mem j : List ℕ) (acts : List (Act Call)) → HistoryHolds (handsOn (F .fresh code mem j)) acts

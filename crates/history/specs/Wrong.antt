@@ -40,10 +40,14 @@ ThenMovesIptr =
 abbrev pub FirstProperly : Function → Type 0
 FirstProperly = EveryCall (λ m mem j r. m .depth ≡ 0 → StepContract m mem j (r .reply) (r .memory) (r .journal))
 
--- going on: where the rules accept a step, so does it. A step that refuses from then on falls to demand 2 alone: it leaves what the calls that
--- stand give (01, What the contracts have to say)
-abbrev pub GoesOn : Function → Type 0
-GoesOn = EveryCall (λ m mem j r. rules.step m mem j .answer ≡ 0 → number (r .reply) ≡ 0)
+-- moving on: where the rules accept a step, it is accepted, or Iptr moves though it is refused. One that refuses from then on and moves nothing
+-- falls to demand 2 alone: its state is what the calls that stand give (01, What the contracts have to say)
+abbrev pub MovesOn : Function → Type 0
+MovesOn =
+    EveryCall
+    (λ m mem j r.
+    rules.step m mem j .answer ≡ 0 → (number (r .reply) ≡ 0 → ⊥)
+    → getD (r .reply .machine .regs) iptrReg 0 ≡ getD (m .regs) iptrReg 0 → ⊥)
 
 -- neither a function that refuses always nor one with one fixed answer meets the contract (01, What the contracts have to say)
 pub record TwoAnswers (C : Machine → Contract) : Type 0 where
