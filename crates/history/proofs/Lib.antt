@@ -11,7 +11,7 @@ pub mod Exactly
 pub mod Public
 pub mod Functions
 pub mod Worked
-pub mod Wrong
 pub mod Counted
+pub mod Wrong
 pub mod Loose
 pub mod Demands

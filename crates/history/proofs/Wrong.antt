@@ -1,6 +1,6 @@
 -- Wrong answers ruled out (01, What the contracts have to say): no function that refuses always, gives one fixed answer, leaves the machine as it
 -- was, undoes nothing, or after a first step only moves Iptr, meets the contract; of eight functions with one of the last two in its place demand 3
--- does not hold. Each by states on which the rules are computed. An invented depth or used: Counted.antt. Assumes nothing.
+-- does not hold, nor with a step that invents depth or used. Each by states on which the rules are computed. Assumes nothing.
 use mathlib.Core.Path.{_≡_, refl, sym, ap, _∙_}
 use mathlib.Core.List.{List, [], _∷_}
 use Prim.Native.Nat.{ℕ, _+_}
@@ -22,20 +22,22 @@ use Rattle.rules.specs.Links as links
 use Rattle.rules.specs.Operations.{functions, function}
 use Rattle.rules.specs.Step as steps
 use Rattle.rules.specs.Journal.{olds, recordOf, frameBad, lastPairs, lastStart, lastRegs, pairsAt, writeBack, strays}
-use Rattle.rules.specs.Calls.{Outcome, outcomeOf, memoryBad, journalBad, sizeBad, codeBad, notOutput, notInput, recorded, settled, checked, undone, undoLast, codeWord, freshWord, freshMemory, freshRegs, machineOf, fresh}
+use Rattle.rules.specs.Calls.{numberOf, Outcome, outcomeOf, memoryBad, journalBad, sizeBad, codeBad, notOutput, notInput, recorded, settled, checked, undone, undoLast, codeWord, freshWord, freshMemory, freshRegs, machineOf, fresh}
 use Rattle.rules.specs.Calls as rules
 use Rattle.rules.specs.declared.Machine.{Machine}
 use Rattle.rules.proofs.Tests.{yes-eq, no-eq, cases-eq}
+use Rattle.laws.specs.Answers.{answerOf}
 use Rattle.laws.proofs.Unique.{number-answer}
 use Rattle.laws.proofs.Calls.{kept-step, kept-fresh}
 use Rattle.history.specs.Machine.{call, undo}
-use Rattle.history.specs.T414.{step, Whole, after, Plain}
+use Rattle.history.specs.T414.{step, Whole, after, run, Shown, shown, Plain}
 use Rattle.history.specs.Contracts.{FreshContract, StepContract, TickContract, TakeContract, GiveContract, EventContract, UndoContract, ClearContract, number}
 use Rattle.history.specs.Chain.{stands, worked, given, plain}
 use Rattle.history.specs.Functions.{Result, Function, Meets, MeetsFresh, Functions, handsOn, made, ran, answers, stood, Reversible}
-use Rattle.history.specs.Wrong.{RefusesAlways, AnswersOnly, LeavesRegisters, LeavesDepth, LeavesMemory, ThenMovesIptr, FirstProperly, MovesOn, TwoAnswers}
+use Rattle.history.specs.Wrong.{RefusesAlways, AnswersOnly, LeavesRegisters, LeavesDepth, LeavesMemory, ThenMovesIptr, FirstProperly, MovesOn, InventsCounts, Accepts, TwoAnswers}
 use Rattle.history.proofs.Unique.{told}
-use Rattle.history.proofs.Functions.{resultOf}
+use Rattle.history.proofs.Counted.{step-counted}
+use Rattle.history.proofs.Functions.{resultOf, rules-meet}
 
 -- ---- the states: fresh with code 41 81, with clocks that run and link 0 moving one byte; after one step of it; and no memory at all
 
@@ -239,87 +241,106 @@ next45 = kept-step (start .machine) (start .memory) (start .journal) start45 .co
 abbrev aregOf : Whole → ℕ
 aregOf s = getD (s .machine .regs) areg 0
 
--- functions of which fresh meets its contract, and step where no record stands; the others are any functions
-module _ (F : Functions) (f : MeetsFresh (F .fresh)) (p : FirstProperly (F .step)) where
+-- eight functions of which fresh meets its contract
+module _ (F : Functions) (f : MeetsFresh (F .fresh)) where
   abbrev there : Whole
   there = handsOn (F .fresh code lent paper)
 
   there-is : there ≡ start
   there-is = ap after (f code lent paper)
 
+  there45 : length (there .machine .regs) ≡ registers
+  there45 = rw there-is start45
+
+  there-accepts : at rules.step there .answer ≡ 0
+  there-accepts = ap (λ (w : Whole). at rules.step w .answer) there-is ∙ computed-start .0 .0
+
   abbrev first : Result
   first = made F (call step) there
 
-  first-is : outcomeOf (first .reply) (first .memory) (first .journal) ≡ at rules.step start
-  first-is =
-      p (there .machine) (rw there-is start45) (there .memory) (there .journal) (ap (λ (w : Whole). w .machine .depth) there-is ∙ computed-start .1)
-      ∙ ap (λ (w : Whole). at rules.step w) there-is
+  -- an invented depth or used: where it accepts what the rules accept, one step from fresh shows it
+  pub step-invented : Accepts (F .step) → InventsCounts (F .step) → Reversible F → ⊥
+  unfolding ran answers stands run
+  step-invented a w d =
+      let accepted : number (first .reply) ≡ 0 = a (there .machine) there45 (there .memory) (there .journal) there-accepts in
+      let same : shown (handsOn first) ≡ shown (after (at rules.step there)) = rw accepted at (d code lent paper (call step ∷ []) .records) in
+      let meets = rules-meet .step (there .machine) there45 (there .memory) (there .journal) in
+      let counted = step-counted (there .machine) (there .memory) (there .journal) _ _ _ meets (ap (λ (o : Outcome). o .answer) meets ∙ there-accepts) in
+      w (there .machine) there45 (there .memory) (there .journal) accepted
+      (ap (λ (x : Shown). x .depth) same ∙ counted .0, ap (λ (x : Shown). x .used) same ∙ counted .1)
 
-  -- it is accepted, and leaves what the rules leave
-  first-accepted : number (first .reply) ≡ 0
-  first-accepted = ap (λ (o : Outcome). o .answer) first-is ∙ computed-start .0 .0
+  -- and step where no record stands; the others are any functions
+  module _ (p : FirstProperly (F .step)) where
+    first-is : outcomeOf (first .reply) (first .memory) (first .journal) ≡ at rules.step start
+    first-is =
+        p (there .machine) there45 (there .memory) (there .journal) (ap (λ (w : Whole). w .machine .depth) there-is ∙ computed-start .1)
+        ∙ ap (λ (w : Whole). at rules.step w) there-is
 
-  first-leaves : handsOn first ≡ next
-  first-leaves = ap after first-is
+    -- it is accepted, and leaves what the rules leave
+    first-accepted : number (first .reply) ≡ 0
+    first-accepted = ap (λ (o : Outcome). o .answer) first-is ∙ computed-start .0 .0
 
-  first45 : length (handsOn first .machine .regs) ≡ registers
-  first45 = rw first-leaves next45
+    first-leaves : handsOn first ≡ next
+    first-leaves = ap after first-is
 
-  aregs : (aregOf there ≡ 0) × (aregOf (handsOn first) ≡ 1)
-  aregs = (ap aregOf there-is ∙ computed-start .0 .1, ap aregOf first-leaves ∙ computed-start .0 .2)
+    first45 : length (handsOn first .machine .regs) ≡ registers
+    first45 = rw first-leaves next45
 
-  -- an undo that does nothing: it must be accepted, so that no call stands; and A is still 1, not 0
-  pub undo-nothing : LeavesRegisters (F .undo) → Reversible F → ⊥
-  unfolding ran answers stands given
-  undo-nothing w d =
-      let stands-first : stood F (call step ∷ []) there ≡ step ∷ [] = rw first-accepted in
-      let undone : Result = made F undo (handsOn first) in
-      let accepted : number (undone .reply) ≡ 0 =
-      ap (λ (l : List ℕ). getD l 0 1) (d code lent paper (call step ∷ []) .undoing 1 (rw stands-first (omega arith)) .accepted) in
-      let state : plain (handsOn undone) ≡ plain there = rw (first-accepted, accepted) at (d code lent paper (call step ∷ undo ∷ []) .state) in
-      let e : _≡_ {A = ℕ} 1 0 =
-      sym (aregs .1)
-      ∙ ap (λ (r : List ℕ). getD r areg 0) (sym (w (handsOn first .machine) first45 (handsOn first .memory) (handsOn first .journal)))
-      ∙ ap (λ (x : Plain). getD (x .regs) areg 0) state
-      ∙ aregs .0 in
-      omega (arith, e)
+    aregs : (aregOf there ≡ 0) × (aregOf (handsOn first) ≡ 1)
+    aregs = (ap aregOf there-is ∙ computed-start .0 .1, ap aregOf first-leaves ∙ computed-start .0 .2)
 
-  -- a step that then only moves Iptr: where it is accepted, two steps stand, and A is still 1, not 2; where it is refused, one stands, but Iptr
-  -- is not what that one gives
-  pub step-iptr-moved : ThenMovesIptr (F .step) → MovesOn (F .step) → Reversible F → ⊥
-  unfolding ran answers stands given
-  step-iptr-moved w g d = cases-eq (number (again .reply)) 0 accepted refused
-    where
-      again : Result
-      again = made F (call step) (handsOn first)
+    -- an undo that does nothing: it must be accepted, so that no call stands; and A is still 1, not 0
+    pub undo-nothing : LeavesRegisters (F .undo) → Reversible F → ⊥
+    unfolding ran answers stands given
+    undo-nothing w d =
+        let stands-first : stood F (call step ∷ []) there ≡ step ∷ [] = rw first-accepted in
+        let undone : Result = made F undo (handsOn first) in
+        let accepted : number (undone .reply) ≡ 0 =
+        ap (λ (l : List ℕ). getD l 0 1) (d code lent paper (call step ∷ []) .undoing 1 (rw stands-first (omega arith)) .accepted) in
+        let state : plain (handsOn undone) ≡ plain there = rw (first-accepted, accepted) at (d code lent paper (call step ∷ undo ∷ []) .state) in
+        let e : _≡_ {A = ℕ} 1 0 =
+        sym (aregs .1)
+        ∙ ap (λ (r : List ℕ). getD r areg 0) (sym (w (handsOn first .machine) first45 (handsOn first .memory) (handsOn first .journal)))
+        ∙ ap (λ (x : Plain). getD (x .regs) areg 0) state
+        ∙ aregs .0 in
+        omega (arith, e)
 
-      stays : aregOf (handsOn again) ≡ aregOf (handsOn first)
-      stays =
-          w (handsOn first .machine) first45 (handsOn first .memory) (handsOn first .journal)
-          (λ z. omega (arith, z, ap (λ (x : Whole). x .machine .depth) first-leaves, computed-start .2))
-          areg
-          (λ z. omega (arith, z))
+    -- a step that then only moves Iptr: where it is accepted, two steps stand, and A is still 1, not 2; where it is refused, one stands, but Iptr
+    -- is not what that one gives
+    pub step-iptr-moved : ThenMovesIptr (F .step) → MovesOn (F .step) → Reversible F → ⊥
+    unfolding ran answers stands given
+    step-iptr-moved w g d = cases-eq (number (again .reply)) 0 accepted refused
+      where
+        again : Result
+        again = made F (call step) (handsOn first)
 
-      accepted : number (again .reply) ≡ 0 → ⊥
-      accepted a =
-          let state : plain (handsOn again) ≡ given (plain there) (step ∷ step ∷ []) =
-          rw (first-accepted, a) at (d code lent paper (call step ∷ call step ∷ []) .state) in
-          let e : _≡_ {A = ℕ} 1 2 =
-          sym (aregs .1)
-          ∙ sym stays
-          ∙ ap (λ (x : Plain). getD (x .regs) areg 0) (state ∙ ap (λ (x : Whole). given (plain x) (step ∷ step ∷ [])) there-is)
-          ∙ computed-start .4 in
-          omega (arith, e)
+        stays : aregOf (handsOn again) ≡ aregOf (handsOn first)
+        stays =
+            w (handsOn first .machine) first45 (handsOn first .memory) (handsOn first .journal)
+            (λ z. omega (arith, z, ap (λ (x : Whole). x .machine .depth) first-leaves, computed-start .2))
+            areg
+            (λ z. omega (arith, z))
 
-      refused : (number (again .reply) ≡ 0 → ⊥) → ⊥
-      refused n =
-          let before : plain (handsOn first) ≡ given (plain there) (step ∷ []) = rw first-accepted at (d code lent paper (call step ∷ []) .state) in
-          let state : plain (handsOn again) ≡ given (plain there) (step ∷ []) =
-          rw (first-accepted, ne-eqb (number (again .reply)) 0 n) at (d code lent paper (call step ∷ call step ∷ []) .state) in
-          g (handsOn first .machine) first45 (handsOn first .memory) (handsOn first .journal)
-          (ap (λ (x : Whole). at rules.step x .answer) first-leaves ∙ computed-start .3)
-          n
-          (ap (λ (x : Plain). getD (x .regs) iptrReg 0) (state ∙ sym before))
+        accepted : number (again .reply) ≡ 0 → ⊥
+        accepted a =
+            let state : plain (handsOn again) ≡ given (plain there) (step ∷ step ∷ []) =
+            rw (first-accepted, a) at (d code lent paper (call step ∷ call step ∷ []) .state) in
+            let e : _≡_ {A = ℕ} 1 2 =
+            sym (aregs .1)
+            ∙ sym stays
+            ∙ ap (λ (x : Plain). getD (x .regs) areg 0) (state ∙ ap (λ (x : Whole). given (plain x) (step ∷ step ∷ [])) there-is)
+            ∙ computed-start .4 in
+            omega (arith, e)
+
+        refused : (number (again .reply) ≡ 0 → ⊥) → ⊥
+        refused n =
+            let before : plain (handsOn first) ≡ given (plain there) (step ∷ []) = rw first-accepted at (d code lent paper (call step ∷ []) .state) in
+            let state : plain (handsOn again) ≡ given (plain there) (step ∷ []) =
+            rw (first-accepted, ne-eqb (number (again .reply)) 0 n) at (d code lent paper (call step ∷ call step ∷ []) .state) in
+            g (handsOn first .machine) first45 (handsOn first .memory) (handsOn first .journal)
+            (ap (λ (x : Whole). at rules.step x .answer) first-leaves ∙ computed-start .3)
+            n
+            (ap (λ (x : Plain). getD (x .regs) iptrReg 0) (state ∙ sym before))
 
 -- ---- and there are such functions
 
@@ -340,10 +361,24 @@ iptrStep m mem j =
       journal = j;
     }))
 
-pub wrong-exist : LeavesRegisters idleUndo × FirstProperly iptrStep × ThenMovesIptr iptrStep × MovesOn iptrStep
+-- a step that answers as the rules do, and leaves all as it was, depth and used too
+abbrev idleStep : Function
+idleStep m mem j = resultOf (rules.refused (rules.step m mem j .answer) m mem j)
+
+pub wrong-exist : LeavesRegisters idleUndo
+    × FirstProperly iptrStep
+    × ThenMovesIptr iptrStep
+    × MovesOn iptrStep
+    × Accepts idleStep
+    × InventsCounts idleStep
 wrong-exist = (
   λ m h mem j. refl,
   λ m h mem j e. rw (yes-eq e) (told _ (kept-step m mem j h .known)),
   λ m h mem j e k d. rw (no-eq e) (getD-set-other (m .regs) iptrReg k _ 0 d),
-  λ m h mem j a n. absurd (n (cases-eq (m .depth) 0 (λ e. rw (yes-eq e) (number-answer (rules.step m mem j .answer) (kept-step m mem j h .known) ∙ a)) (λ e. rw (no-eq e) (number-answer 0 (omega arith))))),
+  λ m h mem j a n. absurd (n (cases-eq (m .depth) 0 (λ e. rw (yes-eq e) (answers-so m h mem j ∙ a)) (λ e. rw (no-eq e) (number-answer 0 (omega arith))))),
+  λ m h mem j a. answers-so m h mem j ∙ a,
+  λ m h mem j a c. omega (arith, c .0),
 )
+  where
+    answers-so : (m : Machine) → length (m .regs) ≡ registers → (mem j : List ℕ) → numberOf (answerOf (rules.step m mem j .answer)) ≡ rules.step m mem j .answer
+    answers-so m h mem j = number-answer (rules.step m mem j .answer) (kept-step m mem j h .known)

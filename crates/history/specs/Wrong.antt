@@ -1,5 +1,5 @@
 -- 01's wrong functions, as properties of a function: refusing always, one fixed answer, leaving the machine as it was, an undo that does nothing,
--- the first step properly and then only moving Iptr (01, What the contracts have to say).
+-- the first step properly and then only moving Iptr, an invented depth or used (01, What the contracts have to say).
 use mathlib.Core.Path.{_≡_}
 use mathlib.Core.List.{List}
 use Prim.Native.Nat.{ℕ}
@@ -8,6 +8,8 @@ use Rattle.rules.specs.Registers.{iptrReg}
 use Rattle.rules.specs.Calls as rules
 use Rattle.rules.specs.declared.Machine.{Machine}
 use Rattle.history.specs.Contracts.{Contract, StepContract, number}
+use Rattle.history.specs.T414.{step}
+use Rattle.history.specs.Counted.{oneMore}
 use Rattle.history.specs.Functions.{Function, EveryCall, Meets}
 
 -- refusing always (01, What the contracts have to say)
@@ -48,6 +50,18 @@ MovesOn =
     (λ m mem j r.
     rules.step m mem j .answer ≡ 0 → (number (r .reply) ≡ 0 → ⊥)
     → getD (r .reply .machine .regs) iptrReg 0 ≡ getD (m .regs) iptrReg 0 → ⊥)
+
+-- inventing depth or used: where a step is accepted, they are not those of one record more (01, What the contracts have to say)
+abbrev pub InventsCounts : Function → Type 0
+InventsCounts =
+    EveryCall
+    (λ m mem j r.
+    number (r .reply) ≡ 0
+    → (r .reply .machine .depth ≡ oneMore step m mem j .0) × (r .reply .machine .used ≡ oneMore step m mem j .1) → ⊥)
+
+-- accepting what the rules accept, whatever it then leaves (01, What the contracts have to say)
+abbrev pub Accepts : Function → Type 0
+Accepts = EveryCall (λ m mem j r. rules.step m mem j .answer ≡ 0 → number (r .reply) ≡ 0)
 
 -- neither a function that refuses always nor one with one fixed answer meets the contract (01, What the contracts have to say)
 pub record TwoAnswers (C : Machine → Contract) : Type 0 where
