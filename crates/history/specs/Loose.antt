@@ -1,5 +1,5 @@
--- Contracts loosened by one thing: all is said but of the memory, or of the journal, and so on. Each has two results, so that a contract says
--- nothing that the others would say (01, What the contracts have to say).
+-- Contracts loosened by one thing: all is said but of the memory, or of the journal, and so on. Each then has two results: nothing that a
+-- contract says follows from the rest (01, What the contracts have to say).
 use mathlib.Core.Path.{_≡_}
 use mathlib.Core.List.{List}
 use Prim.Native.Nat.{ℕ}
