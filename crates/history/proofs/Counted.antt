@@ -8,16 +8,16 @@ use Prim.Native.Nat.{ℕ, _+_, _-_}
 use native.Mathlib.Omega.{arith}
 use lib.ListN.{length}
 use Rattle.rules.specs.Memory.{touched}
-use Rattle.rules.specs.Work.{Work, begin}
-use Rattle.rules.specs.Links as links
-use Rattle.rules.specs.Step as steps
+use Rattle.rules.specs.Work.{Work}
 use Rattle.rules.specs.Journal.{recordLength, frameBad, lastPairs, lastStart, pairsAt, strays}
 use Rattle.rules.specs.Calls.{Outcome, outcomeOf, sizeBad, codeBad, notOutput, notInput, recorded, settled, checked, undone, undoLast}
 use Rattle.rules.specs.Calls as rules
 use Rattle.rules.specs.declared.Machine.{Machine}
 use Rattle.rules.specs.declared.Reply.{Reply}
 use Rattle.rules.proofs.Tests.{yes-eq, no-eq, cases-eq, on-pick, on-lt, on-eq}
-use Rattle.history.specs.Contracts.{Contract, FreshContract, StepContract, TickContract, TakeContract, GiveContract, EventContract, UndoContract, ClearContract, number}
+use Rattle.history.specs.T414.{step, tick, take, give, event}
+use Rattle.history.specs.Contracts.{FreshContract, StepContract, TickContract, TakeContract, GiveContract, EventContract, UndoContract, ClearContract, number}
+use Rattle.history.specs.Counted.{Counted, oneMore, oneLess, noRecord}
 
 -- where it is accepted, depth and used become these
 pub record Counts (depth used : ℕ) (o : Outcome) : Type 0 where
@@ -34,14 +34,10 @@ module _ (d u : ℕ) where
       (on-pick (Counts d u) bad (counts-refused 3 (λ e. omega (arith, e)) m mem j)
       (on-pick (Counts d u) (frameBad (length j) (m .depth) (m .used)) (counts-refused 4 (λ e. omega (arith, e)) m mem j) h))
 
--- the words that some work stores to
-abbrev pub wordsStored : List ℕ → Work → ℕ
-wordsStored mem w = length (touched (length mem) (w .stored))
-
 module _ (m : Machine) (mem j : List ℕ) where
   -- one record more
   abbrev pub Adds : Work → Outcome → Type 0
-  Adds w o = Counts (m .depth + 1) (m .used + recordLength (wordsStored mem w)) o
+  Adds w o = Counts (m .depth + 1) (m .used + recordLength (length (touched (length mem) (w .stored)))) o
 
   counts-settled : (byte : ℕ) (w : Work) → Adds w (settled m mem j byte w)
   unfolding settled recorded
@@ -63,52 +59,42 @@ module _ (m : Machine) (mem j : List ℕ) where
 
 -- ---- of the contracts
 
--- where the call is accepted, the machine has this depth and this used
-abbrev pub Counted : Contract → (List ℕ → List ℕ → ℕ × ℕ) → Type 0
-Counted C f =
-    (mem j : List ℕ) (r : Reply) (mem′ j′ : List ℕ) → C mem j r mem′ j′ → number r ≡ 0
-    → (r .machine .depth ≡ f mem j .0) × (r .machine .used ≡ f mem j .1)
-
 counted : (d u : ℕ) (o : Outcome) → Counts d u o → (r : Reply) (mem j : List ℕ) → outcomeOf r mem j ≡ o → number r ≡ 0
     → (r .machine .depth ≡ d) × (r .machine .used ≡ u)
 counted d u o c r mem j e z = subst (λ (x : Outcome). Counts d u x) (sym e) c .counts z
 
--- after one record more, of some work
-abbrev pub one-more : Machine → (List ℕ → Work) → List ℕ → List ℕ → ℕ × ℕ
-one-more m w mem j = (m .depth + 1, m .used + recordLength (wordsStored mem (w mem)))
-
 module _ (m : Machine) where
-  pub step-counted : Counted (StepContract m) (one-more m (λ mem. steps.step mem (begin (m .regs))))
+  pub step-counted : Counted (StepContract m) (oneMore step m)
   unfolding rules.step
   step-counted mem j r mem′ j′ e z = counted _ _ _ (counts-checked _ _ _ m mem j _ (counts-settled m mem j _ _)) r mem′ j′ e z
 
-  pub tick-counted : Counted (TickContract m) (one-more m (λ mem. links.tick (begin (m .regs))))
+  pub tick-counted : Counted (TickContract m) (oneMore tick m)
   unfolding rules.tick
   tick-counted mem j r mem′ j′ e z = counted _ _ _ (counts-checked _ _ _ m mem j _ (counts-settled m mem j _ _)) r mem′ j′ e z
 
-  pub take-counted : (channel : ℕ) → Counted (TakeContract channel m) (one-more m (λ mem. links.take mem channel (begin (m .regs))))
+  pub take-counted : (channel : ℕ) → Counted (TakeContract channel m) (oneMore (take channel) m)
   unfolding rules.take
   take-counted channel mem j r mem′ j′ e z = counted _ _ _ (counts-checked _ _ _ m mem j _ (counts-settled m mem j _ _)) r mem′ j′ e z
 
-  pub give-counted : (channel byte : ℕ) → Counted (GiveContract channel byte m) (one-more m (λ mem. links.give mem channel byte (begin (m .regs))))
+  pub give-counted : (channel byte : ℕ) → Counted (GiveContract channel byte m) (oneMore (give channel byte) m)
   unfolding rules.give
   give-counted channel byte mem j r mem′ j′ e z = counted _ _ _ (counts-checked _ _ _ m mem j _ (counts-settled m mem j _ _)) r mem′ j′ e z
 
-  pub event-counted : Counted (EventContract m) (one-more m (λ mem. links.event (begin (m .regs))))
+  pub event-counted : Counted (EventContract m) (oneMore event m)
   unfolding rules.event
   event-counted mem j r mem′ j′ e z = counted _ _ _ (counts-checked _ _ _ m mem j _ (counts-settled m mem j _ _)) r mem′ j′ e z
 
-  pub undo-counted : Counted (UndoContract m) (λ mem j. (m .depth - 1, lastStart j (m .used)))
+  pub undo-counted : Counted (UndoContract m) (oneLess m)
   unfolding rules.undo
   undo-counted mem j r mem′ j′ e z =
       counted _ _ _ (counts-checked _ _ _ m mem j _ (on-eq (Drops m mem j) _ _ (counts-refused _ _ 5 (λ q. omega (arith, q)) m mem j) (counts-undoLast m mem j))) r mem′ j′ e z
 
-  pub clear-counted : Counted (ClearContract m) (λ mem j. (0, 0))
+  pub clear-counted : Counted (ClearContract m) noRecord
   unfolding rules.clear
   clear-counted mem j r mem′ j′ e z =
       counted 0 0 _ (on-pick (Counts 0 0) (sizeBad mem j) (counts-refused _ _ 1 (λ q. omega (arith, q)) m mem j) (record { counts = λ q. (refl, refl) })) r mem′ j′ e z
 
-pub fresh-counted : (code : List ℕ) → Counted (FreshContract code) (λ mem j. (0, 0))
+pub fresh-counted : (code : List ℕ) → Counted (FreshContract code) noRecord
 unfolding rules.fresh
 fresh-counted code mem j r mem′ j′ e z =
     counted 0 0 _

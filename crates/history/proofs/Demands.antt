@@ -2,7 +2,7 @@
 --
 -- 1. TOTAL. Every call, handed anything at all, gives one of 01's answers; a refused one changes nothing.
 -- 2. EXACT. The contract determines the answer, the registers, depth, used and every lent word, and no second answer meets it; number n is
---    answered exactly when 01's condition of n holds and that of no number before it.
+--    answered exactly when 01's condition of n holds and that of no number before it; depth and used are counted by the records.
 -- 3. REVERSIBLE. After any sequence the machine is what the accepted calls that have not been undone give; undoing leads back through it.
 --
 -- Assumes nothing.
@@ -16,71 +16,100 @@ use Rattle.rules.specs.Calls.{noMachine}
 use Rattle.rules.specs.declared.Machine.{Machine}
 use Rattle.rules.specs.declared.Reply.{Reply}
 use Rattle.refusals.specs.Conditions.{freshNumbers, stepNumbers, tickNumbers, takeNumbers, giveNumbers, eventNumbers, undoNumbers, clearNumbers}
-use Rattle.history.specs.Machine.{Act, undo}
-use Rattle.history.specs.T414.{Call, Whole, shown}
+use Rattle.history.specs.Machine.{Act, undo, inOrder}
+use Rattle.history.specs.T414.{Call, step, tick, take, give, event, Whole, run, shown}
+use Rattle.history.specs.T414 as calls
 use Rattle.history.specs.Contracts.{Contract, FreshContract, StepContract, TickContract, TakeContract, GiveContract, EventContract, UndoContract, ClearContract, OneAnswer, Total, RefusesCleanly}
 use Rattle.history.specs.Given.{AnswersExactly}
+use Rattle.history.specs.Counted.{Counted, oneMore, oneLess, noRecord}
 use Rattle.history.specs.Chain.{left, Chain, stands, Moment, given, plain}
+use Rattle.history.specs.Functions.{Functions, MeetContracts, Reversible}
 use Rattle.history.proofs.Unique.{fresh-unique, step-unique, tick-unique, take-unique, give-unique, event-unique, undo-unique, clear-unique}
 use Rattle.history.proofs.Unique.{fresh-total, step-total, tick-total, take-total, give-total, event-total, undo-total, clear-total}
 use Rattle.history.proofs.Refused.{fresh-refused, step-refused, tick-refused, take-refused, give-refused, event-refused, undo-refused, clear-refused}
 use Rattle.history.proofs.Exactly.{fresh-exactly, step-exactly, tick-exactly, take-exactly, give-exactly, event-exactly, undo-exactly, clear-exactly}
-use Rattle.history.proofs.Public.{public-history, public-undone}
+use Rattle.history.proofs.Counted.{fresh-counted, step-counted, tick-counted, take-counted, give-counted, event-counted, undo-counted, clear-counted}
+use Rattle.history.proofs.Public.{public-history, public-records, public-undone}
+use Rattle.history.proofs.Functions.{byTheRules, rules-meet, reversible}
 
--- of one call: some result meets its contract, and no second one; it refuses exactly by its table, and cleanly (m is the machine before it)
-pub record TotalAndExact (C : Contract) (numbers : List ℕ → List ℕ → List (ℕ × Bool)) (m : Machine) : Type 0 where
+-- of one call: some result meets its contract, and no second one; it refuses exactly by its table, and cleanly (m is the machine before it);
+-- where it is accepted, depth and used are these
+pub record TotalAndExact (C : Contract) (numbers : List ℕ → List ℕ → List (ℕ × Bool)) (counts : List ℕ → List ℕ → ℕ × ℕ) (m : Machine) : Type 0 where
   pub total : Total C
   pub refuses-cleanly : RefusesCleanly m C
   pub one-answer : OneAnswer C
   pub answers-exactly : AnswersExactly numbers C
+  pub counted : Counted C counts
 
 -- ---- demands 1 and 2, of the eight
 
-pub fresh-demands : (code : List ℕ) → TotalAndExact (FreshContract code) (freshNumbers code) noMachine
-fresh-demands code = record { total = fresh-total code; refuses-cleanly = fresh-refused code; one-answer = fresh-unique code; answers-exactly = fresh-exactly code }
+pub fresh-demands : (code : List ℕ) → TotalAndExact (FreshContract code) (freshNumbers code) noRecord noMachine
+fresh-demands code = record { total = fresh-total code; refuses-cleanly = fresh-refused code; one-answer = fresh-unique code; answers-exactly = fresh-exactly code; counted = fresh-counted code }
 
 -- a machine has 45 registers, of any value; depth and used are any numbers
 module _ (m : Machine) (h : length (m .regs) ≡ registers) where
-  pub step-demands : TotalAndExact (StepContract m) (stepNumbers m) m
-  step-demands = record { total = step-total m h; refuses-cleanly = step-refused m; one-answer = step-unique m; answers-exactly = step-exactly m h }
+  pub step-demands : TotalAndExact (StepContract m) (stepNumbers m) (oneMore step m) m
+  step-demands = record { total = step-total m h; refuses-cleanly = step-refused m; one-answer = step-unique m; answers-exactly = step-exactly m h; counted = step-counted m }
 
-  pub tick-demands : TotalAndExact (TickContract m) (tickNumbers m) m
-  tick-demands = record { total = tick-total m h; refuses-cleanly = tick-refused m; one-answer = tick-unique m; answers-exactly = tick-exactly m }
+  pub tick-demands : TotalAndExact (TickContract m) (tickNumbers m) (oneMore tick m) m
+  tick-demands = record { total = tick-total m h; refuses-cleanly = tick-refused m; one-answer = tick-unique m; answers-exactly = tick-exactly m; counted = tick-counted m }
 
-  pub take-demands : (channel : ℕ) → TotalAndExact (TakeContract channel m) (takeNumbers channel m) m
-  take-demands channel = record { total = take-total m h channel; refuses-cleanly = take-refused m channel; one-answer = take-unique m channel; answers-exactly = take-exactly m channel }
+  pub take-demands : (channel : ℕ) → TotalAndExact (TakeContract channel m) (takeNumbers channel m) (oneMore (take channel) m) m
+  take-demands channel = record { total = take-total m h channel; refuses-cleanly = take-refused m channel; one-answer = take-unique m channel; answers-exactly = take-exactly m channel; counted = take-counted m channel }
 
-  pub give-demands : (channel byte : ℕ) → TotalAndExact (GiveContract channel byte m) (giveNumbers channel byte m) m
-  give-demands channel byte = record { total = give-total m h channel byte; refuses-cleanly = give-refused m channel byte; one-answer = give-unique m channel byte; answers-exactly = give-exactly m channel byte }
+  pub give-demands : (channel byte : ℕ) → TotalAndExact (GiveContract channel byte m) (giveNumbers channel byte m) (oneMore (give channel byte) m) m
+  give-demands channel byte = record { total = give-total m h channel byte; refuses-cleanly = give-refused m channel byte; one-answer = give-unique m channel byte; answers-exactly = give-exactly m channel byte; counted = give-counted m channel byte }
 
-  pub event-demands : TotalAndExact (EventContract m) (eventNumbers m) m
-  event-demands = record { total = event-total m h; refuses-cleanly = event-refused m; one-answer = event-unique m; answers-exactly = event-exactly m }
+  pub event-demands : TotalAndExact (EventContract m) (eventNumbers m) (oneMore event m) m
+  event-demands = record { total = event-total m h; refuses-cleanly = event-refused m; one-answer = event-unique m; answers-exactly = event-exactly m; counted = event-counted m }
 
-  pub undo-demands : TotalAndExact (UndoContract m) (undoNumbers m) m
-  undo-demands = record { total = undo-total m h; refuses-cleanly = undo-refused m; one-answer = undo-unique m; answers-exactly = undo-exactly m }
+  pub undo-demands : TotalAndExact (UndoContract m) (undoNumbers m) (oneLess m) m
+  undo-demands = record { total = undo-total m h; refuses-cleanly = undo-refused m; one-answer = undo-unique m; answers-exactly = undo-exactly m; counted = undo-counted m }
 
-  pub clear-demands : TotalAndExact (ClearContract m) (clearNumbers m) m
-  clear-demands = record { total = clear-total m h; refuses-cleanly = clear-refused m; one-answer = clear-unique m; answers-exactly = clear-exactly m }
+  pub clear-demands : TotalAndExact (ClearContract m) (clearNumbers m) noRecord m
+  clear-demands = record { total = clear-total m h; refuses-cleanly = clear-refused m; one-answer = clear-unique m; answers-exactly = clear-exactly m; counted = clear-counted m }
 
--- ---- demand 3
+-- ---- demand 3, of the contracts
 
 -- from any fresh machine and any list of steps, ticks, takes, gives, events and undos, some refused, each call handed what the one before left
 module _
     (code mem j : List ℕ) (r₀ : Reply) (mem₀ j₀ : List ℕ) (fresh : FreshContract code mem j r₀ mem₀ j₀)
     (acts : List (Act Call)) (numbers : List ℕ) (t : Whole) (made : Chain (left r₀ mem₀ j₀) acts numbers t)
   where
+    -- what fresh left
+    abbrev pub begun : Whole
+    begun = left r₀ mem₀ j₀
+
     -- the accepted calls, undos apart, that have not been undone; the last one first
     abbrev pub standing : List Call
     standing = stands acts numbers []
 
     -- the registers and all memory equal what the rules give for them, in order
-    pub history-demand : plain t ≡ given (plain (left r₀ mem₀ j₀)) standing
+    pub history-demand : plain t ≡ given (plain begun) standing
     history-demand = public-history code mem j r₀ mem₀ j₀ fresh acts numbers t made .0
+
+    -- depth is their number
+    pub depth-demand : t .machine .depth ≡ length standing
+    depth-demand = public-history code mem j r₀ mem₀ j₀ fresh acts numbers t made .1
+
+    -- used and the journal's words in use (and all else that shows) are those of a run of these calls alone, in order; in it none is refused
+    pub records-demand : (shown t ≡ shown (run (inOrder standing) begun)) × (calls.standing (inOrder standing) begun [] ≡ standing)
+    records-demand = public-records code mem j r₀ mem₀ j₀ fresh acts numbers t made
 
     -- undoing n where at least n stand: every undo is accepted, and registers, memory, depth and used (and the journal's words in use) are as
     -- before the last n of these, at a moment of the same sequence when all the others stood
     pub undo-demand : (n : ℕ) → n ≤ length standing → (others : List ℕ) (u : Whole) → Chain t (replicate n undo) others u
         → (others ≡ replicate n 0)
-        × (m : Moment (left r₀ mem₀ j₀) acts numbers t) × (stands (m .calls-before) (m .numbers-before) [] ≡ drop n standing)
+        × (m : Moment begun acts numbers t) × (stands (m .calls-before) (m .numbers-before) [] ≡ drop n standing)
         × (shown u ≡ shown (m .state))
     undo-demand = public-undone code mem j r₀ mem₀ j₀ fresh acts numbers t made
+
+-- ---- demand 3, of functions
+
+-- any eight functions that meet the contracts satisfy it, run from fresh: the same four things, and they do again what they did (specs/Functions.antt)
+pub functions-demand : (F : Functions) → MeetContracts F → Reversible F
+functions-demand = reversible
+
+-- and there are such functions
+pub functions-exist : MeetContracts byTheRules
+functions-exist = rules-meet

@@ -9,7 +9,9 @@ pub mod Unique
 pub mod Refused
 pub mod Exactly
 pub mod Public
+pub mod Functions
 pub mod Worked
-pub mod Wrong
 pub mod Counted
+pub mod Wrong
+pub mod Loose
 pub mod Demands

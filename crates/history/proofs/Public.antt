@@ -23,7 +23,7 @@ use Rattle.history.specs.Chain.{Met, left, Chain, ended, made, stands, M
 -- ---- a chain of contracts is a run of the rules
 
 module _ (s : Whole) (r : Reply) (mem j : List ℕ) where
-  met-is : (a : Act Call) → Met a s r mem j → outcomeOf r mem j ≡ perform a s
+  pub met-is : (a : Act Call) → Met a s r mem j → outcomeOf r mem j ≡ perform a s
   met-is (call step) h = h
   met-is (call tick) h = h
   met-is (call (calls.take c)) h = h
@@ -164,7 +164,7 @@ module _ (s : Whole) (e : Emptied s) where
 -- ---- DEMAND 3
 
 -- fresh leaves 45 registers and an empty journal
-fresh-empties : (code mem j : List ℕ) (r : Reply) (mem₀ j₀ : List ℕ) → FreshContract code mem j r mem₀ j₀ → Emptied (left r mem₀ j₀)
+pub fresh-empties : (code mem j : List ℕ) (r : Reply) (mem₀ j₀ : List ℕ) → FreshContract code mem j r mem₀ j₀ → Emptied (left r mem₀ j₀)
 fresh-empties code mem j r mem₀ j₀ f = subst (λ (o : Outcome). Emptied (after o)) (sym f) (from-fresh code mem j)
 
 module _ (code mem j : List ℕ) (r₀ : Reply) (mem₀ j₀ : List ℕ) (fresh : FreshContract code mem j r₀ mem₀ j₀) where

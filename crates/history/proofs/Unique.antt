@@ -57,10 +57,10 @@ module _ (m : Machine) where
 -- ---- and some answer does: 01's numbers are all that the rules give
 
 -- the reply that an outcome tells
-abbrev replyOf : Outcome → Reply
+abbrev pub replyOf : Outcome → Reply
 replyOf o = record { machine = o .machine; answer = answerOf (o .answer); byte = o .byte }
 
-told : (o : Outcome) → o .answer ≤ 12 → outcomeOf (replyOf o) (o .memory) (o .journal) ≡ o
+pub told : (o : Outcome) → o .answer ≤ 12 → outcomeOf (replyOf o) (o .memory) (o .journal) ≡ o
 told o h =
     let n : numberOf (answerOf (o .answer)) ≡ o .answer = number-answer (o .answer) h in
     let e : _≡_ {A = Outcome} (record {

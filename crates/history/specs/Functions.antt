@@ -1,12 +1,17 @@
--- Functions that might be taken for a public one, to say that a wrong one does not meet the contract (01, What the contracts have to say).
+-- Any eight functions of the public types: what it is that they meet the contracts, and demand 3 as a property of them, run from fresh
+-- (01, What the contracts have to say).
 use mathlib.Core.Path.{_≡_}
-use mathlib.Core.List.{List}
-use Prim.Native.Nat.{ℕ}
-use lib.ListN.{getD}
-use Rattle.rules.specs.Registers.{iptrReg}
+use mathlib.Core.List.{List, [], _∷_, _++_}
+use Prim.Native.Nat.{ℕ, _≤_}
+use lib.ListN.{length, drop, replicate}
+use Rattle.rules.specs.Registers.{registers}
 use Rattle.rules.specs.declared.Machine.{Machine}
 use Rattle.rules.specs.declared.Reply.{Reply}
-use Rattle.history.specs.Contracts.{Contract, number}
+use Rattle.history.specs.Machine.{Act, call, undo, inOrder}
+use Rattle.history.specs.T414.{Call, step, tick, give, event, Whole, run, shown}
+use Rattle.history.specs.T414 as calls
+use Rattle.history.specs.Contracts.{Contract, FreshContract, StepContract, TickContract, TakeContract, GiveContract, EventContract, UndoContract, ClearContract, number}
+use Rattle.history.specs.Chain.{left, stands, given, plain}
 
 -- what a function hands back: its reply, and every lent word (01, What the contracts have to say)
 pub record Result : Type 0 where
@@ -18,40 +23,101 @@ pub record Result : Type 0 where
 abbrev pub Function : Type 0
 Function = Machine → List ℕ → List ℕ → Result
 
--- it meets a contract on every input (01, What the contracts have to say)
+-- any function that takes what fresh takes: code, memory and journal (01, What the contracts have to say)
+abbrev pub FreshFunction : Type 0
+FreshFunction = List ℕ → List ℕ → List ℕ → Result
+
+-- it holds of every call: of any memory and journal, and any machine of 45 registers, since a public function can be handed no other
+-- (01, Memory and registers; 01, What the contracts have to say)
+abbrev pub EveryCall : (Machine → List ℕ → List ℕ → Result → Type 0) → Function → Type 0
+EveryCall P f = (m : Machine) → length (m .regs) ≡ registers → (mem j : List ℕ) → P m mem j (f m mem j)
+
+-- it meets a contract at every call (01, What the contracts have to say)
 abbrev pub Meets : (Machine → Contract) → Function → Type 0
-Meets C f = (m : Machine) (mem j : List ℕ) → C m mem j (f m mem j .reply) (f m mem j .memory) (f m mem j .journal)
+Meets C = EveryCall (λ m mem j r. C m mem j (r .reply) (r .memory) (r .journal))
 
--- ---- 01's wrong functions
+-- the same of fresh, which is handed no machine (01, What the contracts have to say)
+abbrev pub MeetsFresh : FreshFunction → Type 0
+MeetsFresh f = (code mem j : List ℕ) → FreshContract code mem j (f code mem j .reply) (f code mem j .memory) (f code mem j .journal)
 
--- refusing always (01, What the contracts have to say)
-abbrev pub RefusesAlways : Function → Type 0
-RefusesAlways f = (m : Machine) (mem j : List ℕ) → number (f m mem j .reply) ≡ 0 → ⊥
+-- any eight functions of the public types (01, The part of the T414 that we build: Calls)
+pub record Functions : Type 0 where
+  pub fresh : FreshFunction
+  pub step : Function
+  pub tick : Function
+  pub take : (channel : ℕ) → Function
+  pub give : (channel byte : ℕ) → Function
+  pub event : Function
+  pub undo : Function
+  pub clear : Function
 
--- one fixed answer, the number n (01, What the contracts have to say)
-abbrev pub AnswersOnly : ℕ → Function → Type 0
-AnswersOnly n f = (m : Machine) (mem j : List ℕ) → number (f m mem j .reply) ≡ n
+-- each of them meets its contract (01, What the contracts have to say)
+pub record MeetContracts (F : Functions) : Type 0 where
+  pub fresh : MeetsFresh (F .fresh)
+  pub step : Meets StepContract (F .step)
+  pub tick : Meets TickContract (F .tick)
+  pub take : (channel : ℕ) → Meets (TakeContract channel) (F .take channel)
+  pub give : (channel byte : ℕ) → Meets (GiveContract channel byte) (F .give channel byte)
+  pub event : Meets EventContract (F .event)
+  pub undo : Meets UndoContract (F .undo)
+  pub clear : Meets ClearContract (F .clear)
 
--- leaving the machine as it was: the registers (01, What the contracts have to say)
-abbrev pub LeavesRegisters : Function → Type 0
-LeavesRegisters f = (m : Machine) (mem j : List ℕ) → f m mem j .reply .machine .regs ≡ m .regs
+-- ---- calls of these functions one after the other
 
--- leaving the machine as it was: the depth, which clear makes 0 (01, What the contracts have to say)
-abbrev pub LeavesDepth : Function → Type 0
-LeavesDepth f = (m : Machine) (mem j : List ℕ) → f m mem j .reply .machine .depth ≡ m .depth
+-- what a call hands on: the machine of its reply, and the lent words (01, What the contracts have to say: demand 3)
+abbrev pub handsOn : Result → Whole
+handsOn r = left (r .reply) (r .memory) (r .journal)
 
--- leaving the machine as it was: of fresh, the memory (01, What the contracts have to say)
-abbrev pub LeavesMemory : Function → Type 0
-LeavesMemory f = (m : Machine) (mem j : List ℕ) → f m mem j .memory ≡ mem
+module _ (F : Functions) where
+  -- a call or an undo, made by its function (01, The part of the T414 that we build: Calls)
+  abbrev pub made : Act Call → Whole → Result
+  made (call step) s = F .step (s .machine) (s .memory) (s .journal)
+  made (call tick) s = F .tick (s .machine) (s .memory) (s .journal)
+  made (call (calls.take c)) s = F .take c (s .machine) (s .memory) (s .journal)
+  made (call (give c byte)) s = F .give c byte (s .machine) (s .memory) (s .journal)
+  made (call event) s = F .event (s .machine) (s .memory) (s .journal)
+  made undo s = F .undo (s .machine) (s .memory) (s .journal)
 
--- running the first step properly and then only moving Iptr: where a record stands already, no other register changes
--- (01, What the contracts have to say)
-abbrev pub ThenMovesIptr : Function → Type 0
-ThenMovesIptr f =
-    (m : Machine) (mem j : List ℕ) → (m .depth ≡ 0 → ⊥)
-    → (k : ℕ) → (k ≡ iptrReg → ⊥) → getD (f m mem j .reply .machine .regs) k 0 ≡ getD (m .regs) k 0
+  -- what the last of these calls leaves, each handed what the one before left (01, What the contracts have to say: demand 3)
+  unfoldable pub ran : List (Act Call) → Whole → Whole
+  ran [] s = s
+  ran (a ∷ acts) s = ran acts (handsOn (made a s))
 
--- neither a function that refuses always nor one with one fixed answer meets the contract (01, What the contracts have to say)
-pub record TwoAnswers (C : Machine → Contract) : Type 0 where
-  pub not-refusing : (f : Function) → RefusesAlways f → Meets C f → ⊥
-  pub not-fixed : (f : Function) (n : ℕ) → AnswersOnly n f → Meets C f → ⊥
+  -- the numbers that they answer (01, Answers by number)
+  unfoldable pub answers : List (Act Call) → Whole → List ℕ
+  answers [] s = []
+  answers (a ∷ acts) s = number (made a s .reply) ∷ answers acts (handsOn (made a s))
+
+  -- the calls that were accepted and not undone, by these numbers, the last one first (01, What the contracts have to say: demand 3)
+  abbrev pub stood : List (Act Call) → Whole → List Call
+  stood acts s = stands acts (answers acts s) []
+
+  -- n undos after these calls: none is refused, and registers, memory, depth, used and the journal's words in use are as at a moment of the
+  -- same sequence, when all but the last n stood (01, What the contracts have to say: demand 3)
+  pub record GivenBack (s : Whole) (acts : List (Act Call)) (n : ℕ) : Type 0 where
+    pub accepted : answers (replicate n undo) (ran acts s) ≡ replicate n 0
+    pub calls-before : List (Act Call)
+    pub calls-after : List (Act Call)
+    pub all-calls : acts ≡ calls-before ++ calls-after
+    pub others-stood : stood calls-before s ≡ drop n (stood acts s)
+    pub as-then : shown (ran (replicate n undo) (ran acts s)) ≡ shown (ran calls-before s)
+
+  -- demand 3 of one sequence of calls from s. What a call gives is what the rules give for it (`given`): a step that only moves Iptr does so each
+  -- time, so that to hold the functions against themselves (`alone`) would not be enough (01, What the contracts have to say: demand 3)
+  pub record HistoryHolds (s : Whole) (acts : List (Act Call)) : Type 0 where
+    -- registers and all memory are what the calls that stand give, in order
+    pub state : plain (ran acts s) ≡ given (plain s) (stood acts s)
+    -- depth is their number
+    pub depth : ran acts s .machine .depth ≡ length (stood acts s)
+    -- all that shows, used and the journal's words in use too, is what the rules leave when these calls alone are made
+    pub records : shown (ran acts s) ≡ shown (run (inOrder (stood acts s)) s)
+    -- and what the functions themselves then leave; none is refused
+    pub alone : shown (ran acts s) ≡ shown (ran (inOrder (stood acts s)) s)
+    pub stand-alone : stood (inOrder (stood acts s)) s ≡ stood acts s
+    -- undoing n, where at least n stand, gives back what was before them
+    pub undoing : (n : ℕ) → n ≤ length (stood acts s) → GivenBack s acts n
+
+  -- DEMAND 3: from fresh, with any code, memory and journal, after any sequence of steps, ticks, takes, gives, events and undos, some refused
+  -- (01, What the contracts have to say: demand 3)
+  abbrev pub Reversible : Type 0
+  Reversible = (code mem j : List ℕ) (acts : List (Act Call)) → HistoryHolds (handsOn (F .fresh code mem j)) acts

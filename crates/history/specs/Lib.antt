@@ -2,5 +2,8 @@ pub mod Machine
 pub mod T414
 pub mod Contracts
 pub mod Given
+pub mod Counted
 pub mod Chain
 pub mod Functions
+pub mod Wrong
+pub mod Loose

@@ -1,10 +1,10 @@
 -- Our calls, as a sequence: `perform` is the calls of `rules` themselves. And the machine of Machine.antt that they are (proofs/Calls.antt).
-use mathlib.Core.Bool.{Bool, true, false, _||_}
+use mathlib.Core.Bool.{Bool, false, _||_}
 use mathlib.Core.List.{List, [], _∷_}
 use mathlib.Core.Option.{Option, none, some}
 use Prim.Native.Nat.{ℕ}
 use lib.Dec.{eqb}
-use lib.ListN.{length, drop}
+use lib.ListN.{length}
 use lib.ListN as lists
 use Rattle.rules.specs.Tests.{pick, ifLt, ifEq}
 use Rattle.rules.specs.Memory.{stores, touched}
@@ -15,7 +15,8 @@ use Rattle.rules.specs.Journal.{recordLength, recordOf, frameBad, lastPairs, la
 use Rattle.rules.specs.Calls.{Outcome, memoryBad, journalBad, notOutput, notInput}
 use Rattle.rules.specs.Calls as calls
 use Rattle.rules.specs.declared.Machine as declared
-use Rattle.history.specs.Machine.{Effect, refused, accepted, Act, call, undo, Machine}
+use Rattle.history.specs.Machine.{Effect, refused, accepted, Act, call, undo, no-way, done, Machine}
+use Rattle.history.specs.Machine as any
 
 -- ---- sequences of calls
 
@@ -54,9 +55,7 @@ run (a ∷ acts) s = run acts (after (perform a s))
 -- the test: the call is accepted. An accepted call stands; an accepted undo takes the last one off
 -- (01, What the contracts have to say: demand 3)
 abbrev pub stack : Act Call → Bool → List Call → List Call
-stack (call c) true k = c ∷ k
-stack undo true k = drop 1 k
-stack a false k = k
+stack a t k = any.stack a (pick t (done 0) (no-way 0)) k
 
 -- the accepted calls that are not undone, the last one first, where those of k stood before (01, What the contracts have to say: demand 3)
 unfoldable pub standing : List (Act Call) → Whole → List Call → List Call

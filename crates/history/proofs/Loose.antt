@@ -1,0 +1,147 @@
+-- A contract that leaves one thing open has two results: memory, journal, registers, depth, used, byte or answer, of each of the eight, from any
+-- machine of 45 registers and any memory and journal of a word at least. Assumes nothing.
+use mathlib.Core.Path.{_≡_, refl, sym, ap, _∙_}
+use mathlib.Core.List.{List}
+use Prim.Native.Nat.{ℕ, _-_, _<_}
+use native.Mathlib.Omega.{arith}
+use lib.ListN.{length, getD, set, length-set}
+use lib.Seq.{getD-set-same}
+use Rattle.rules.specs.Registers.{registers}
+use Rattle.rules.specs.Calls.{numberOf, Outcome, outcomeOf, machineOf}
+use Rattle.rules.specs.Calls as rules
+use Rattle.rules.specs.declared.Answer.{Answer}
+use Rattle.rules.specs.declared.Machine.{Machine}
+use Rattle.rules.specs.declared.Reply.{Reply}
+use Rattle.laws.specs.Answers.{answerOf}
+use Rattle.laws.specs.Calls.{Kept}
+use Rattle.laws.proofs.Unique.{number-answer}
+use Rattle.laws.proofs.Calls.{kept-step, kept-tick, kept-take, kept-give, kept-event, kept-undo, kept-clear, kept-fresh}
+use Rattle.history.specs.Contracts.{FreshContract, StepContract, TickContract, TakeContract, GiveContract, EventContract, UndoContract, ClearContract, Same}
+use Rattle.history.specs.Functions.{Result}
+use Rattle.history.specs.Loose.{TwoResults, AllNeeded}
+use Rattle.history.proofs.Unique.{replyOf, told}
+use Rattle.history.proofs.Functions.{resultOf}
+
+-- another number, 0 or 1
+other-number : (n : ℕ) → n ≡ 1 - n → ⊥
+other-number n e = omega (arith, e)
+
+-- another list of the same length: its first word is another
+abbrev otherList : List ℕ → List ℕ
+otherList l = set l 0 (1 - getD l 0 0)
+
+other-list : (l : List ℕ) → 0 < length l → l ≡ otherList l → ⊥
+other-list l h e = other-number (getD l 0 0) (ap (λ (x : List ℕ). getD x 0 0) e ∙ getD-set-same l 0 (1 - getD l 0 0) 0 h)
+
+module _ (rule : List ℕ → List ℕ → Outcome) (mem j : List ℕ) (k : Kept mem j (rule mem j)) (hm : 0 < length mem) (hj : 0 < length j) where
+  abbrev o : Outcome
+  o = rule mem j
+
+  abbrev r : Reply
+  r = replyOf o
+
+  tells : outcomeOf r (o .memory) (o .journal) ≡ o
+  tells = told o (k .known)
+
+  -- what the rules hand back, and the same but for the reply
+  abbrev same : Result
+  same = resultOf o
+
+  abbrev replying : Machine → Answer → ℕ → Result
+  replying m answer byte = record { reply = record { machine = m; answer = answer; byte = byte }; memory = o .memory; journal = o .journal }
+
+  needed : AllNeeded (λ mem j r mem′ j′. outcomeOf r mem′ j′ ≡ rule mem j) mem j
+  needed =
+      record {
+        memory =
+            record {
+              one = same;
+              other = record { reply = r; memory = otherList (o .memory); journal = o .journal };
+              one-meets = (o .memory, tells);
+              other-meets = (o .memory, tells);
+              lengths = (refl, sym (length-set (o .memory) 0 _), refl);
+              differ = λ e. other-list (o .memory) (omega (arith, k .memory)) (e .memory);
+            };
+        journal =
+            record {
+              one = same;
+              other = record { reply = r; memory = o .memory; journal = otherList (o .journal) };
+              one-meets = (o .journal, tells);
+              other-meets = (o .journal, tells);
+              lengths = (refl, refl, sym (length-set (o .journal) 0 _));
+              differ = λ e. other-list (o .journal) (omega (arith, k .journal)) (e .journal);
+            };
+        registers =
+            record {
+              one = same;
+              other = replying (machineOf (otherList (o .machine .regs)) (o .machine .depth) (o .machine .used)) (r .answer) (o .byte);
+              one-meets = (o .machine .regs, tells);
+              other-meets = (o .machine .regs, tells);
+              lengths = (sym (length-set (o .machine .regs) 0 _), refl, refl);
+              differ = λ e. other-list (o .machine .regs) (omega (arith, k .count)) (e .registers);
+            };
+        depth =
+            record {
+              one = same;
+              other = replying (machineOf (o .machine .regs) (1 - o .machine .depth) (o .machine .used)) (r .answer) (o .byte);
+              one-meets = (o .machine .depth, tells);
+              other-meets = (o .machine .depth, tells);
+              lengths = (refl, refl, refl);
+              differ = λ e. other-number (o .machine .depth) (e .depth);
+            };
+        used =
+            record {
+              one = same;
+              other = replying (machineOf (o .machine .regs) (o .machine .depth) (1 - o .machine .used)) (r .answer) (o .byte);
+              one-meets = (o .machine .used, tells);
+              other-meets = (o .machine .used, tells);
+              lengths = (refl, refl, refl);
+              differ = λ e. other-number (o .machine .used) (e .used);
+            };
+        byte =
+            record {
+              one = same;
+              other = replying (o .machine) (r .answer) (1 - o .byte);
+              one-meets = (o .byte, tells);
+              other-meets = (o .byte, tells);
+              lengths = (refl, refl, refl);
+              differ = λ e. other-number (o .byte) (e .byte);
+            };
+        answer =
+            record {
+              one = same;
+              other = replying (o .machine) (answerOf (1 - o .answer)) (o .byte);
+              one-meets = (r .answer, tells);
+              other-meets = (r .answer, tells);
+              lengths = (refl, refl, refl);
+              differ = λ e.
+                  other-number (o .answer)
+                  (sym (number-answer (o .answer) (k .known)) ∙ ap numberOf (e .answer) ∙ number-answer (1 - o .answer) (omega arith));
+            };
+      }
+
+module _ (mem j : List ℕ) (hm : 0 < length mem) (hj : 0 < length j) where
+  pub fresh-needed : (code : List ℕ) → AllNeeded (FreshContract code) mem j
+  fresh-needed code = needed (rules.fresh code) mem j (kept-fresh code mem j) hm hj
+
+  module _ (m : Machine) (h : length (m .regs) ≡ registers) where
+    pub step-needed : AllNeeded (StepContract m) mem j
+    step-needed = needed (rules.step m) mem j (kept-step m mem j h) hm hj
+
+    pub tick-needed : AllNeeded (TickContract m) mem j
+    tick-needed = needed (rules.tick m) mem j (kept-tick m mem j h) hm hj
+
+    pub take-needed : (channel : ℕ) → AllNeeded (TakeContract channel m) mem j
+    take-needed channel = needed (rules.take channel m) mem j (kept-take m mem j h channel) hm hj
+
+    pub give-needed : (channel byte : ℕ) → AllNeeded (GiveContract channel byte m) mem j
+    give-needed channel byte = needed (rules.give channel byte m) mem j (kept-give m mem j h channel byte) hm hj
+
+    pub event-needed : AllNeeded (EventContract m) mem j
+    event-needed = needed (rules.event m) mem j (kept-event m mem j h) hm hj
+
+    pub undo-needed : AllNeeded (UndoContract m) mem j
+    undo-needed = needed (rules.undo m) mem j (kept-undo m mem j h) hm hj
+
+    pub clear-needed : AllNeeded (ClearContract m) mem j
+    clear-needed = needed (rules.clear m) mem j (kept-clear m mem j h) hm hj
