@@ -7,12 +7,14 @@ use mathlib.Core.List.{List, [], _∷_, _++_}
 use Prim.Native.Nat.{ℕ, _+_, _/_, _^_, _≤_, _<_}
 use native.Mathlib.Omega.{arith}
 use borrow.Author.Tests.{lt-ltb, le-ltb, ltb-false}
+use lib.Bits.{bitAnd}
 use lib.Dec.{ltb}
 use lib.ListN.{length, getD, length-append}
+use lib.Seq.{sets}
 use Rattle.rules.specs.Tests.{pick, ifLt, ifEq}
 use Rattle.rules.specs.Words.{index}
 use Rattle.rules.specs.Registers.{registers, iptrReg, flagsReg, haltedFlag}
-use Rattle.rules.specs.Work.{Work, begin, outside, kindFetch, access}
+use Rattle.rules.specs.Work.{Work, begin, outside, stop, unlisted, kindFetch, refuseAt, access}
 use Rattle.rules.specs.Memory.{touched, stores}
 use Rattle.rules.specs.Journal.{recordLength, recordOf, frameBad}
 use Rattle.rules.specs.Step as steps
@@ -22,9 +24,14 @@ use Rattle.rules.specs.declared.Machine.{Machine}
 use Rattle.rules.proofs.Tests.{yes-eq, no-eq, no-lt, by-bool, cases-eq, cases-lt}
 use Rattle.laws.specs.Alike.{Witness, Unrefused, Alike}
 use Rattle.laws.specs.Alike as alike
+use Rattle.laws.proofs.Fine.{Fine, Turns}
+use Rattle.laws.proofs.FineStep.{fine-fetched, fine-decode, fine-haltOnError}
+use Rattle.laws.proofs.Alike.{Is, never-turns}
 use Rattle.laws.proofs.Appended.{stores-appended, touched-appended, record-appended}
 use Rattle.laws.proofs.AlikeStep.{step-alike}
+use Rattle.refusals.specs.Conditions.{frame, isHalted, isIdle, fetches}
 use Rattle.refusals.specs.Outside.{appended}
+use Rattle.refusals.proofs.Own.{by-choice}
 
 -- ---- a memory that is not refused with 1 is small, and so is the longer one
 
@@ -45,3 +52,130 @@ memory-small mem j h = go (ltb (length mem) 64) (ltb 16384 (length mem)) refl h
 answer-of : (t : Bool) (o p : Outcome) → pick t o p .answer ≡ pick t (o .answer) (p .answer)
 answer-of true o p = refl
 answer-of false o p = refl
+
+-- an accepted call, whose record fits
+abbrev accepted : Machine → List ℕ → List ℕ → ℕ → Work → Outcome
+accepted m mem j byte w =
+    record {
+      answer = 0;
+      byte = byte;
+      machine = rules.machineOf (w .regs) (m .depth + 1) (m .used + recordLength (length (touched (length mem) (w .stored))));
+      memory = stores mem (w .stored);
+      journal = sets j (m .used) (recordOf mem (m .regs) (touched (length mem) (w .stored)));
+    }
+
+settled-ten : (m : Machine) (mem j : List ℕ) (byte : ℕ) (w : Work) → settled m mem j byte w .answer ≡ outside → w .answer ≡ outside
+unfolding settled recorded ifLt
+settled-ten m mem j byte w h =
+    cases-eq (w .answer) 0
+    (λ e. go (ltb (length j) (m .used + recordLength (length (touched (length mem) (w .stored))))) (rw (yes-eq e) at h))
+    (λ e. rw (no-eq e) at h)
+  where
+    go : (t : Bool) → pick t (refused 12 m mem j) (accepted m mem j byte w) .answer ≡ outside → w .answer ≡ outside
+    go true z = absurd (omega (arith, z))
+    go false z = absurd (omega (arith, z))
+
+-- the checks before a call's own passed, where it answers 10
+checked-ten : (bad : Bool) (m : Machine) (mem j : List ℕ) (o : Outcome) → checked bad m mem j o .answer ≡ outside → (sizeBad mem j ≡ false) × (o .answer ≡ outside)
+unfolding checked
+checked-ten bad m mem j o h = go (sizeBad mem j) bad (frameBad (length j) (m .depth) (m .used)) refl h
+  where
+    go : (a b c : Bool) → sizeBad mem j ≡ a → pick a (refused 1 m mem j) (pick b (refused 3 m mem j) (pick c (refused 4 m mem j) o)) .answer ≡ outside
+        → (sizeBad mem j ≡ false) × (o .answer ≡ outside)
+    go true b c e z = absurd (omega (arith, z))
+    go false true c e z = absurd (omega (arith, z))
+    go false false true e z = absurd (omega (arith, z))
+    go false false false e z = (e, z)
+
+-- ---- THE WITNESS: an answer 10 comes with a kind of 1 to 3 and an address that is outside memory
+
+witnessed : (size : ℕ) (w w′ : Work) → w .answer ≡ outside → Alike size w w′ → Witness size w
+witnessed size w w′ e (alike.beyond a c t) = t
+witnessed size w w′ e (alike.refused n o q c c′) = absurd (o e)
+witnessed size w w′ e (alike.same q u) = absurd (omega (arith, e, u .none))
+
+pub step-witness : (m : Machine) (mem j : List ℕ) → length (m .regs) ≡ registers → rules.step m mem j .answer ≡ outside
+    → (steps.step mem (begin (m .regs)) .answer ≡ outside) × Witness (length mem) (steps.step mem (begin (m .regs)))
+unfolding rules.step
+step-witness m mem j h e =
+    let c = checked-ten false m mem j (settled m mem j 0 (steps.step mem (begin (m .regs)))) e in
+    let a = settled-ten m mem j 0 (steps.step mem (begin (m .regs))) (c .1) in
+    (a, witnessed (length mem) _ _ a (step-alike mem [] (memory-small mem j (c .0)) (m .regs) h))
+
+-- ---- THE LONGER MEMORY: up to 16,384 words in all
+
+module _ (m : Machine) (mem x j : List ℕ) where
+  settled-longer : (w w′ : Work) → Alike (length mem) w w′ → (settled m mem j 0 w .answer ≡ outside → ⊥)
+      → settled m (mem ++ x) j 0 w′ ≡ appended x (settled m mem j 0 w)
+  unfolding settled recorded ifLt
+  settled-longer w w′ (alike.beyond a c t) n = absurd (n (rw (no-eq {a = w .answer} {b = 0} (λ z. omega (arith, a, z))) a))
+  settled-longer w w′ (alike.refused z o e c c′) n = rw (no-eq {a = w .answer} {b = 0} z, ← e, no-eq {a = w .answer} {b = 0} z)
+  settled-longer w w′ (alike.same e u) n =
+      rw (← e, yes-eq (u .none), yes-eq (u .none), touched-appended mem x (w .stored) (u .inside), stores-appended mem x (w .stored) (u .inside), record-appended mem x (m .regs) (w .stored))
+      (go (ltb (length j) (m .used + recordLength (length (touched (length mem) (w .stored))))))
+    where
+      go : (t : Bool) → pick t (refused 12 m (mem ++ x) j) (appended x (accepted m mem j 0 w)) ≡ appended x (pick t (refused 12 m mem j) (accepted m mem j 0 w))
+      go true = refl
+      go false = refl
+
+  size-same : 64 ≤ length mem → length (mem ++ x) ≤ 16384 → sizeBad (mem ++ x) j ≡ sizeBad mem j
+  unfolding sizeBad memoryBad
+  size-same l h =
+      rw (le-ltb (length mem) 64 l, le-ltb (length (mem ++ x)) 64 (omega (arith, length-append mem x)), le-ltb 16384 (length mem) (omega (arith, length-append mem x)), le-ltb 16384 (length (mem ++ x)) h)
+
+  -- a step that does not answer 10 does the same: answer, machine, stores and record
+  pub step-longer : length (m .regs) ≡ registers → 64 ≤ length mem → length (mem ++ x) ≤ 16384 → (rules.step m mem j .answer ≡ outside → ⊥)
+      → rules.step m (mem ++ x) j ≡ appended x (rules.step m mem j)
+  unfolding rules.step checked
+  step-longer c l h n =
+      rw (size-same l h)
+      (go (sizeBad mem j) (frameBad (length j) (m .depth) (m .used)) n)
+    where
+      w : Work
+      w = steps.step mem (begin (m .regs))
+
+      w′ : Work
+      w′ = steps.step (mem ++ x) (begin (m .regs))
+
+      go : (a b : Bool) → (pick a (refused 1 m mem j) (pick b (refused 4 m mem j) (settled m mem j 0 w)) .answer ≡ outside → ⊥)
+          → pick a (refused 1 m (mem ++ x) j) (pick b (refused 4 m (mem ++ x) j) (settled m (mem ++ x) j 0 w′))
+          ≡ appended x (pick a (refused 1 m mem j) (pick b (refused 4 m mem j) (settled m mem j 0 w)))
+      go true b n = refl
+      go false true n = refl
+      go false false n = settled-longer w w′ (step-alike mem x (omega (arith, length-append mem x)) (m .regs) c) n
+
+-- ---- THE FETCH: where (c) applies and Iptr is outside memory, the answer is 10, of a fetch there
+
+-- the refusal of a fetch at Iptr
+abbrev FetchRefused : List ℕ → Work → Type 0
+FetchRefused r w = Fine (Is outside kindFetch (getD r iptrReg 0)) w
+
+module _ (r mem : List ℕ) (h : length r ≡ registers) (o : length mem ≤ index (getD r iptrReg 0)) where
+  fetch-lost : FetchRefused r (steps.instruction mem (begin r))
+  unfolding steps.instruction access refuseAt
+  fetch-lost = fine-decode mem _ (turns stop) (turns unlisted) (fine-fetched _ lost)
+    where
+      turns : (number : ℕ) → Turns (Is outside kindFetch (getD r iptrReg 0)) number
+      turns = never-turns outside kindFetch (getD r iptrReg 0) (λ z. omega (arith, z))
+
+      lost : FetchRefused r (access mem kindFetch (getD r iptrReg 0) (begin r))
+      lost = rw (no-lt o, yes-eq {a = 0} {b = 0} refl) (record { count = h; known = (refl, refl, refl); ten = turns outside })
+
+  step-lost : isHalted r ≡ false → isIdle r ≡ false → fetches r ≡ true → FetchRefused r (steps.step mem (begin r))
+  unfolding steps.step
+  step-lost k i f =
+      cases-eq (bitAnd (getD r flagsReg 0) haltedFlag) 0
+      (λ e. rw (yes-eq e)
+      (fine-haltOnError _ (by-choice r mem (FetchRefused r) i (λ z. never (sym z ∙ f)) (λ n z. never (sym z ∙ f)) (λ z. fetch-lost))))
+      (λ e. never (sym k ∙ rw (no-eq e)))
+
+pub step-fetch-outside : (m : Machine) (mem j : List ℕ) → length (m .regs) ≡ registers
+    → sizeBad mem j ≡ false → frame m j ≡ false → isHalted (m .regs) ≡ false → isIdle (m .regs) ≡ false → fetches (m .regs) ≡ true
+    → length mem ≤ index (getD (m .regs) iptrReg 0)
+    → (rules.step m mem j .answer ≡ outside)
+    × (steps.step mem (begin (m .regs)) .kind ≡ kindFetch)
+    × (steps.step mem (begin (m .regs)) .address ≡ getD (m .regs) iptrReg 0)
+unfolding rules.step checked settled
+step-fetch-outside m mem j h s f k i c o =
+    let q = step-lost (m .regs) mem h o k i c .known in
+    (rw (s, f, no-eq {a = steps.step mem (begin (m .regs)) .answer} {b = 0} (λ z. omega (arith, z, q .0))) (q .0), q .1, q .2)
