@@ -7,6 +7,7 @@ pub mod T414
 pub mod Examples
 pub mod Unique
 pub mod Refused
+pub mod Outside
 pub mod Exactly
 pub mod Public
 pub mod Functions

@@ -14,7 +14,7 @@ use Rattle.laws.proofs.Unique.{one-outcome, number-answer}
 use Rattle.laws.proofs.Calls.{kept-step, kept-tick, kept-take, kept-give, kept-event, kept-undo, kept-clear, kept-fresh}
 use Rattle.history.specs.Contracts.{FreshContract, StepContract, TickContract, TakeContract, GiveContract, EventContract, UndoContract, ClearContract, Same, OneAnswer, Answered, Total}
 
-same : (o : Outcome) (r r′ : Reply) (mem mem′ j j′ : List ℕ) → outcomeOf r mem j ≡ o → outcomeOf r′ mem′ j′ ≡ o → Same r r′ mem mem′ j j′
+pub same : (o : Outcome) (r r′ : Reply) (mem mem′ j j′ : List ℕ) → outcomeOf r mem j ≡ o → outcomeOf r′ mem′ j′ ≡ o → Same r r′ mem mem′ j j′
 same o r r′ mem mem′ j j′ a b =
     let one = one-outcome r r′ mem mem′ j j′ o a b in
     record {
