@@ -49,29 +49,23 @@ leads (suc n) o registers words =
 
 -- ---- the table
 
--- a line: from fresh with some code, in a memory of 64 words and with room in the journal, and with some registers and words set, so many
--- steps lead to these registers and words; or a fact that is no run (01, Numbers at the edges)
-pub data Row : Type 0 where
-  runs : List ℕ → Settings → Settings → ℕ → Settings → Settings → Row
-  fact : Bool → Row
-
--- a line holds (01, Numbers at the edges)
-unfoldable pub holds : Row → Bool
-holds (runs code registers words n registers′ words′) =
+-- a line: from fresh with some code, in a memory of 64 words and with room in the journal, and with some registers and words set, n steps
+-- lead to these registers and words (01, Numbers at the edges)
+unfoldable pub runs : List ℕ → Settings → Settings → ℕ → Settings → Settings → Bool
+runs code registers words n registers′ words′ =
     leads n (starting registers words (fresh code (replicate 64 0) (replicate 512 0))) registers′ words′
-holds (fact b) = b
 
 -- every line of a table holds (01, What the contracts have to say)
-unfoldable pub every : List Row → Bool
+unfoldable pub every : List Bool → Bool
 every [] = true
-every (r ∷ rows) = holds r && every rows
+every (b ∷ bs) = b && every bs
 
 -- the address of word 40 (01, Memory and registers)
 abbrev pub word40 : ℕ
 word40 = 0x8000_00A0
 
 -- 01, Numbers at the edges
-unfoldable pub starred : List Row
+unfoldable pub starred : List Bool
 starred =
     -- 27 25 44 loads #754; 60 4F loads -1; 61 41 loads -31; 27 2F 2F 2F 2F 2F 6F 40 loads #80000000
     runs (0x27 ∷ 0x25 ∷ 0x44 ∷ []) [] [] 3 ((areg, 0x754) ∷ []) []
@@ -94,7 +88,7 @@ starred =
     ∷ runs (0x23 ∷ 0xFC ∷ 0x21 ∷ 0xFE ∷ []) ((wdescReg, word40) ∷ (areg, 0x8000_0081) ∷ []) [] 4
     ((wdescReg, 0x8000_0081) ∷ (areg, 1) ∷ []) []
     -- Later(#80000000, #7FFFFFFF) holds
-    ∷ fact (later 0x8000_0000 0x7FFF_FFFF)
+    ∷ later 0x8000_0000 0x7FFF_FFFF
     -- norm with A = 1, B = 0: A = 0, B = #80000000, C = 63
     ∷ runs (0x21 ∷ 0xF9 ∷ []) ((areg, 1) ∷ []) [] 2 ((areg, 0) ∷ (breg, 0x8000_0000) ∷ (creg, 63) ∷ []) []
     -- lb at the address of a word #0A0B0C0D gives #0D

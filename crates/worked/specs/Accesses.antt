@@ -1,17 +1,19 @@
--- Every access of a step, at the edge of memory: of 64 words, at addresses #80000000 to #800000FF. A site is an access of an instruction, or
--- of a request that is served, in a state that puts it at a given address. Where that is just inside memory the step answers 0; where it is
--- just outside it answers 10, with the access's kind and address (01, Answers by number). `sites-hold` (proofs/Accesses.antt) proves it.
--- The chapters are those of the rules, each from top to bottom:
---   fetched     the fetch
---   loaded      ldl stl ldnl stnl call ret lb sb move saveh savel altend
---   scheduled   runp (Run), stopp (StartNextProcess), j, startp, endp, stoperr, lend
---   timed       HandleTimerRequest, tin, talt, taltwt, enbt, dist
---   channelled  HandleChannelRequest, in, out, outword, outbyte, resetch, alt, altwt, enbs, diss, enbc, disc
---   linked      take and give
--- No site is an access that no state can put outside memory: those of words 0 to 17 (hard channels, TPtrLoc, the save area); a store, or a
--- second load, at an address that the same step has loaded before, which shares the site of that load; and those that `between` names.
+-- Every access of a step at the edge of memory, which is 64 words here, at addresses #80000000 to #800000FF. A site is an access, and the
+-- registers and words that put it at a given address. Where that is just inside memory, the step answers 0; where it is just outside, it
+-- answers 10 with the access's kind and address (01, Answers by number). `sites-hold` (proofs/Accesses.antt) proves it of each site. They
+-- stand in the order of the rules' chapters:
+--   fetchSites        the fetch
+--   dataSites         ldl, stl, ldnl, stnl, call, ret, lb, sb, move, saveh, savel, altend
+--   schedulingSites   Run (runp), StartNextProcess (stopp), startp, endp, stoperr, lend, TimeSlice (j, lend)
+--   timerSites        HandleTimerRequest, tin, talt, taltwt, enbt, dist
+--   channelSites      HandleChannelRequest, in, out, outword, outbyte, resetch, alt, altwt, enbs, diss, enbc, disc
+--   linkSites         take, give
+-- What has no site of its own cannot be the first access outside memory:
+-- - accesses of fixed words: a hard channel's word, TPtrLoc, the save area;
+-- - a store, or a second load, at an address that the step has loaded before: "with a store" below says that the load's site has it too;
+-- - a place between two that are accessed before it: Iptr.s in altwt and taltwt, TLink.s in tin; and outbyte's byte, in the word just stored.
 use Prim.Native.Nat.{ℕ, _+_, _-_, _*_, _/_, _%_, _^_}
-use mathlib.Core.Bool.{Bool, true, _&&_}
+use mathlib.Core.Bool.{Bool, _&&_}
 use mathlib.Core.List.{List, [], _∷_, _++_}
 use lib.Dec.{eqb}
 use Rattle.rules.specs.Words.{atWord, index}
@@ -20,6 +22,8 @@ use Rattle.rules.specs.Stack.{clocksRun}
 use Rattle.rules.specs.Registers.{iptrReg, wdescReg, areg, breg, creg, oreg, statusReg, fptrReg, bptrReg, sliceReg, flagsReg, tEnabled, pointerReg, countReg, channelReg, activeBit, heldBit, runRequest, readyRequest, eventChannel}
 use Rattle.rules.specs.Work.{Work, begin, outside, kindFetch, kindLoad, kindStore}
 use Rattle.rules.specs.Scheduling.{notProcess, noLowProcess, enabling, waiting, ready, timeSet, timeNotSet, noneSelected, portBase, sliceLength}
+use Rattle.rules.specs.Links.{take, give}
+use Rattle.rules.specs.Step.{step}
 use Rattle.rules.specs.Calls.{freshRegs, freshMemory}
 use Rattle.rules.specs.Starred.{Settings, with-settings}
 
@@ -51,13 +55,6 @@ op code = (0xF, code)
 abbrev pub byteFor : Instruction → ℕ
 byteFor i = i .0 * 16 + i .1 % 16
 
--- an instruction, an edge, the kind of the access, and the registers and words that put it at an address. A site that is only refused has another
--- access outside where it is just inside; one that is only accepted stands beside such a one (01, Answers by number)
-pub data Site : Type 0 where
-  site : Instruction → ℕ × ℕ → ℕ → (ℕ → Settings) → (ℕ → Settings) → Site
-  refused : Instruction → ℕ × ℕ → ℕ → (ℕ → Settings) → (ℕ → Settings) → Site
-  accepted : Instruction → ℕ × ℕ → (ℕ → Settings) → (ℕ → Settings) → Site
-
 -- the process that runs: low, with its workspace at word 40 (01, Memory and registers)
 abbrev pub running : ℕ
 running = 0x8000_00A1
@@ -78,22 +75,34 @@ answers number kind address w = eqb (w .answer) number && eqb (w .kind) kind && 
 abbrev pub Call : Type 0
 Call = List ℕ → Work → Work
 
--- the work of a call in the state that puts an access at an address (DECISIONS 44)
-unfoldable pub worked : Call → Instruction → (ℕ → Settings) → (ℕ → Settings) → ℕ → Work
-worked call i registers words a = call (memoryFor i (words a)) (begin (registersFor i (registers a)))
+-- a call's work in the state, registers and words, that puts an access at an address (DECISIONS 44)
+unfoldable pub workAt : Call → Instruction → (ℕ → Settings) → (ℕ → Settings) → ℕ → Work
+workAt call i registers words a = call (memoryFor i (words a)) (begin (registersFor i (registers a)))
 
--- a site answers as 01 says (01, Answers by number, 10)
-unfoldable pub holds : Call → Site → Bool
-holds call (site i e kind registers words) =
-    answers 0 0 0 (worked call i registers words (e .0))
-    && answers outside kind (e .1) (worked call i registers words (e .1))
-holds call (refused i e kind registers words) = answers outside kind (e .1) (worked call i registers words (e .1))
-holds call (accepted i e registers words) = answers 0 0 0 (worked call i registers words (e .0))
+-- with an access at an address the call answers 0 (01, Answers by number)
+unfoldable pub makes : Call → Instruction → (ℕ → Settings) → (ℕ → Settings) → ℕ → Bool
+makes call i registers words a = answers 0 0 0 (workAt call i registers words a)
 
--- every site of a list does (01, Answers by number, 10)
-unfoldable pub every : Call → List Site → Bool
-every call [] = true
-every call (s ∷ ss) = holds call s && every call ss
+-- with an access of a kind at an address the call answers 10, for that access (01, Answers by number)
+unfoldable pub refuses : Call → Instruction → ℕ → (ℕ → Settings) → (ℕ → Settings) → ℕ → Bool
+refuses call i kind registers words a = answers outside kind a (workAt call i registers words a)
+
+-- an access of a step at an edge: made inside, refused outside (01, Answers by number)
+unfoldable pub site : Instruction → ℕ × ℕ → ℕ → (ℕ → Settings) → (ℕ → Settings) → Bool
+site i edge kind registers words =
+    makes step i registers words (edge .0) && refuses step i kind registers words (edge .1)
+
+-- one that is outside: where it is just inside, another access of the step is outside (01, Answers by number)
+unfoldable pub refused : Instruction → ℕ × ℕ → ℕ → (ℕ → Settings) → (ℕ → Settings) → Bool
+refused i edge kind registers words = refuses step i kind registers words (edge .1)
+
+-- one that is inside, where another state puts it outside (01, Answers by number)
+unfoldable pub accepted : Instruction → ℕ × ℕ → (ℕ → Settings) → (ℕ → Settings) → Bool
+accepted i edge registers words = makes step i registers words (edge .0)
+
+-- an instruction where a request is served before any is fetched (01, One step (a), (b))
+abbrev pub unfetched : Instruction
+unfetched = (0x4, 0)
 
 -- ---- what the states are made of
 
@@ -160,14 +169,14 @@ frontIptrAt level a = (fptrReg level, iptrAt a) ∷ (bptrReg level, other) ∷ [
 -- ---- the fetch (01, One step (c))
 
 -- the byte that is fetched; inside it is 40, ldc 0 (01, One step (c))
-unfoldable pub fetched : List Site
-fetched = site (0x4, 0) lastByte kindFetch (λ a. (iptrReg, a) ∷ []) (λ a. (63, 0x4000_0000) ∷ []) ∷ []
+unfoldable pub fetchSites : List Bool
+fetchSites = site (0x4, 0) lastByte kindFetch (λ a. (iptrReg, a) ∷ []) (λ a. (63, 0x4000_0000) ∷ []) ∷ []
 
 -- ---- Data
 
 -- functions and operations that load and store and do not schedule (000 1.11)
-unfoldable pub loaded : List Site
-loaded =
+unfoldable pub dataSites : List Bool
+dataSites =
     -- ldl, stl: the local
     site (0x7, 0) lastWord kindLoad (λ a. (wdescReg, low a) ∷ []) none
     ∷ site (0xD, 0) lastWord kindStore (λ a. (wdescReg, low a) ∷ []) none
@@ -201,8 +210,8 @@ loaded =
 -- ---- Scheduling
 
 -- TimeSlice of an instruction that a low process has run long enough for (000 1.9)
-unfoldable pub sliced : Instruction → List Site
-sliced i =
+unfoldable pub sliceSites : Instruction → List Bool
+sliceSites i =
     -- its own Iptr.s; the link of the queue's back
     site i lastWord kindStore
     (λ a. (wdescReg, low (iptrAt a)) ∷ (breg, buffer) ∷ (flagsReg, clocksRun) ∷ (sliceReg, sliceLength) ∷ [])
@@ -213,8 +222,8 @@ sliced i =
     ∷ []
 
 -- Run, StartNextProcess, TimeSlice and the operations that start and stop processes (000 1.9, 1.10, 1.11)
-unfoldable pub scheduled : List Site
-scheduled =
+unfoldable pub schedulingSites : List Bool
+schedulingSites =
     -- runp, at high priority: the link of the high queue's back, of the low queue's back
     site (op 0x39) lastWord kindStore (λ a. (wdescReg, mine) ∷ (areg, buffer) ∷ backAt 0 a) none
     ∷ site (op 0x39) lastWord kindStore (λ a. (wdescReg, mine) ∷ (areg, low buffer) ∷ backAt 1 a) none
@@ -244,28 +253,28 @@ scheduled =
     ∷ site (op 0x21) lastWord kindLoad (λ a. (breg, a - 4) ∷ []) none
     ∷ site (op 0x21) firstWord kindLoad (λ a. (breg, a) ∷ []) (λ a. (index (a + 4), 2) ∷ [])
     -- j and lend: TimeSlice
-    ∷ sliced (0x0, 0)
-    ++ sliced (op 0x21)
+    ∷ sliceSites (0x0, 0)
+    ++ sliceSites (op 0x21)
 
 -- ---- Timers
 
 -- HandleTimerRequest: the queue, and a process that runs at such a priority that the one that is woken is put into a queue (000 1.8)
-unfoldable pub served : ℕ → ℕ → List Site
-served queue process =
+unfoldable pub timerRequestSites : ℕ → ℕ → List Bool
+timerRequestSites queue process =
     -- TLink.s of the first; Time.s of the second; State.s of the first, with a store; the link of the queue's back
-    site (0x4, 0) firstWord kindLoad (λ a. (wdescReg, process) ∷ (flagsReg, tEnabled queue) ∷ [])
+    site unfetched firstWord kindLoad (λ a. (wdescReg, process) ∷ (flagsReg, tEnabled queue) ∷ [])
     (λ a. (9 + queue, tlinkAt a) ∷ (index (a + 4), ready) ∷ [])
-    ∷ site (0x4, 0) lastWord kindLoad (λ a. (wdescReg, process) ∷ (flagsReg, tEnabled queue) ∷ [])
+    ∷ site unfetched lastWord kindLoad (λ a. (wdescReg, process) ∷ (flagsReg, tEnabled queue) ∷ [])
     (λ a. (9 + queue, other) ∷ (26, timeAt a) ∷ (27, ready) ∷ [])
-    ∷ site (0x4, 0) lastWord kindLoad (λ a. (wdescReg, process) ∷ (flagsReg, tEnabled queue) ∷ [])
+    ∷ site unfetched lastWord kindLoad (λ a. (wdescReg, process) ∷ (flagsReg, tEnabled queue) ∷ [])
     (λ a. (9 + queue, stateAt a) ∷ (index (a - 4), notProcess) ∷ (index a, waiting) ∷ [])
-    ∷ site (0x4, 0) lastWord kindStore (λ a. (wdescReg, process) ∷ (flagsReg, tEnabled queue) ∷ backAt queue a)
+    ∷ site unfetched lastWord kindStore (λ a. (wdescReg, process) ∷ (flagsReg, tEnabled queue) ∷ backAt queue a)
     (λ a. (9 + queue, other) ∷ (26, notProcess) ∷ (27, waiting) ∷ [])
     ∷ []
 
 -- the walk of an insertion into the low queue, at time 1, by an operation in a state that leads there (000 1.10, InsertTest)
-unfoldable pub inserted : Instruction → Settings → List Site
-inserted i s =
+unfoldable pub insertionSites : Instruction → Settings → List Bool
+insertionSites i s =
     -- Time.s of the first; its TLink.s, with a store. Time.s of the first afterwards, where the process's own Iptr.s is TPtrLoc: then it is the
     -- workspace at Iptr
     site i lastWord kindLoad none (λ a. (10, timeAt a) ∷ (index a, 5) ∷ s)
@@ -275,18 +284,18 @@ inserted i s =
     ∷ []
 
 -- HandleTimerRequest and the timer operations (000 1.8, 1.10, 1.11)
-unfoldable pub timed : List Site
-timed =
-    served 0 mine
-    ++ served 1 running
+unfoldable pub timerSites : List Bool
+timerSites =
+    timerRequestSites 0 mine
+    ++ timerRequestSites 1 running
     -- a high process of the queue that interrupts: its Iptr.s
-    ++ site (0x4, 0) lastWord kindLoad (λ a. (flagsReg, tEnabled 0) ∷ [])
+    ++ site unfetched lastWord kindLoad (λ a. (flagsReg, tEnabled 0) ∷ [])
     (λ a. (9, iptrAt a) ∷ (index (a - 4 * 3), notProcess) ∷ (index (a - 4 * 2), waiting) ∷ [])
     -- tin: State.s, Time.s, the walk, Iptr.s
     ∷ refused (op 0x2B) lastWord kindStore (λ a. (wdescReg, low (stateAt a)) ∷ []) none
     ∷ site (op 0x2B) firstWord kindStore (λ a. (wdescReg, low (timeAt a)) ∷ []) none
     ∷ site (op 0x2B) lastWord kindStore (λ a. (wdescReg, low (iptrAt a)) ∷ []) none
-    ∷ inserted (op 0x2B) []
+    ∷ insertionSites (op 0x2B) []
     -- talt: TLink.s, State.s
     ++ site (op 0x4E) firstWord kindStore (λ a. (wdescReg, low (tlinkAt a)) ∷ []) none
     ∷ site (op 0x4E) lastWord kindStore (λ a. (wdescReg, low (stateAt a)) ∷ []) none
@@ -297,7 +306,7 @@ timed =
     ∷ site (op 0x51) firstWord kindLoad (λ a. (wdescReg, low (tlinkAt a)) ∷ []) (λ a. (index a, timeNotSet) ∷ [])
     ∷ site (op 0x51) firstWord kindLoad (λ a. (wdescReg, low (timeAt a)) ∷ [])
     (λ a. (index (a + 4), timeSet) ∷ (index a, 0xFFFF_FFFF) ∷ [])
-    ∷ inserted (op 0x51) ((36, timeSet) ∷ [])
+    ∷ insertionSites (op 0x51) ((36, timeSet) ∷ [])
     -- enbt: TLink.s; the first guard, Time.s; a later one, Time.s, with a store
     ++ site (op 0x47) lastWord kindLoad (λ a. (wdescReg, low (tlinkAt a)) ∷ (areg, 1) ∷ []) (λ a. (index a, timeNotSet) ∷ [])
     ∷ site (op 0x47) firstWord kindStore (λ a. (wdescReg, low (timeAt a)) ∷ (areg, 1) ∷ [])
@@ -317,15 +326,15 @@ timed =
 -- ---- Channels
 
 -- a process that waits on the soft channel: Iptr.s, then Pointer.s (000 1.10, SaveRegsPendingSoftIO)
-unfoldable pub awaited : Instruction → Settings → List Site
-awaited i s =
+unfoldable pub softWaitSites : Instruction → Settings → List Bool
+softWaitSites i s =
     site i lastWord kindStore (λ a. (wdescReg, low (iptrAt a)) ∷ (breg, channel) ∷ []) (λ a. s)
     ∷ site i firstWord kindStore (λ a. (wdescReg, low (stateAt a)) ∷ (breg, channel) ∷ []) (λ a. s)
     ∷ []
 
 -- output word and output byte (000 1.11)
-unfoldable pub wrote : Instruction → List Site
-wrote i =
+unfoldable pub outputLocalSites : Instruction → List Bool
+outputLocalSites i =
     -- the local 0; on a hard channel, Iptr.s below it; on a soft channel, Iptr.s, then Pointer.s
     site i lastWord kindStore (λ a. (wdescReg, low a) ∷ (breg, channel) ∷ []) (λ a. (50, notProcess) ∷ [])
     ∷ site i firstWord kindStore (λ a. (wdescReg, low (iptrAt a)) ∷ (breg, port 2) ∷ []) none
@@ -334,17 +343,17 @@ wrote i =
     ∷ []
 
 -- HandleChannelRequest, messages and alternatives (000 1.8, 1.10, 1.11; 01, Links, clocks, slice)
-unfoldable pub channelled : List Site
-channelled =
+unfoldable pub channelSites : List Bool
+channelSites =
     -- a run request: the Iptr.s of a high process; the link of the low queue's back
-    site (0x4, 0) lastWord kindLoad (λ a. (channelReg 3, runRequest) ∷ []) (λ a. (3, iptrAt a) ∷ [])
-    ∷ site (0x4, 0) lastWord kindStore (λ a. (channelReg 3, runRequest) ∷ backAt 1 a) (λ a. (3, low buffer) ∷ [])
+    site unfetched lastWord kindLoad (λ a. (channelReg 3, runRequest) ∷ []) (λ a. (3, iptrAt a) ∷ [])
+    ∷ site unfetched lastWord kindStore (λ a. (channelReg 3, runRequest) ∷ backAt 1 a) (λ a. (3, low buffer) ∷ [])
     -- a ready request: Pointer.s, with a store, enabling or waiting; then Run
-    ∷ site (0x4, 0) lastWord kindLoad (λ a. (channelReg 5, readyRequest) ∷ []) (λ a. (5, low (stateAt a)) ∷ (index a, enabling) ∷ [])
-    ∷ site (0x4, 0) lastWord kindLoad (λ a. (channelReg 5, readyRequest) ∷ []) (λ a. (5, low (stateAt a)) ∷ (index a, waiting) ∷ [])
-    ∷ site (0x4, 0) lastWord kindLoad (λ a. (channelReg 5, readyRequest) ∷ [])
+    ∷ site unfetched lastWord kindLoad (λ a. (channelReg 5, readyRequest) ∷ []) (λ a. (5, low (stateAt a)) ∷ (index a, enabling) ∷ [])
+    ∷ site unfetched lastWord kindLoad (λ a. (channelReg 5, readyRequest) ∷ []) (λ a. (5, low (stateAt a)) ∷ (index a, waiting) ∷ [])
+    ∷ site unfetched lastWord kindLoad (λ a. (channelReg 5, readyRequest) ∷ [])
     (λ a. (5, iptrAt a) ∷ (index (a - 4 * 2), waiting) ∷ [])
-    ∷ site (0x4, 0) lastWord kindStore (λ a. (channelReg 5, readyRequest) ∷ backAt 1 a)
+    ∷ site unfetched lastWord kindStore (λ a. (channelReg 5, readyRequest) ∷ backAt 1 a)
     (λ a. (5, low other) ∷ (27, waiting) ∷ [])
     -- in on a hard channel: Iptr.s, on an input link, an output link, with a byte or an event held; the byte held
     ∷ site (op 0x07) lastWord kindStore (λ a. (wdescReg, low (iptrAt a)) ∷ (areg, 1) ∷ (breg, port 4) ∷ []) none
@@ -358,7 +367,7 @@ channelled =
     ∷ site (op 0x07) lastByte kindStore (λ a. (areg, 1) ∷ (breg, port 4) ∷ (creg, a) ∷ (channelReg 4, heldBit) ∷ []) none
     -- in on a soft channel: the channel, with a store; nobody there, Iptr.s and Pointer.s
     ∷ site (op 0x07) lastWord kindLoad (λ a. (breg, a) ∷ []) (λ a. (index a, notProcess) ∷ [])
-    ∷ awaited (op 0x07) ((50, notProcess) ∷ [])
+    ∷ softWaitSites (op 0x07) ((50, notProcess) ∷ [])
     -- in, with a partner: the channel, with a store; its Pointer.s; the bytes from there; the bytes to Creg; the link of its queue's back
     ++ site (op 0x07) lastWord kindLoad (λ a. (breg, a) ∷ []) (λ a. (index a, low other) ∷ [])
     ∷ site (op 0x07) lastWord kindLoad (λ a. (breg, channel) ∷ []) (λ a. (50, low (stateAt a)) ∷ [])
@@ -371,10 +380,10 @@ channelled =
     ∷ site (op 0x0B) lastWord kindStore (λ a. (wdescReg, low (iptrAt a)) ∷ (areg, 1) ∷ (breg, port 0) ∷ []) none
     -- out on a soft channel: the channel, with a store; nobody there, or a partner that enables, waits or is ready, Iptr.s and Pointer.s
     ∷ site (op 0x0B) lastWord kindLoad (λ a. (breg, a) ∷ []) (λ a. (index a, notProcess) ∷ [])
-    ∷ awaited (op 0x0B) ((50, notProcess) ∷ [])
-    ++ awaited (op 0x0B) ((50, low other) ∷ (27, enabling) ∷ [])
-    ++ awaited (op 0x0B) ((50, low other) ∷ (27, waiting) ∷ [])
-    ++ awaited (op 0x0B) ((50, low other) ∷ (27, ready) ∷ [])
+    ∷ softWaitSites (op 0x0B) ((50, notProcess) ∷ [])
+    ++ softWaitSites (op 0x0B) ((50, low other) ∷ (27, enabling) ∷ [])
+    ++ softWaitSites (op 0x0B) ((50, low other) ∷ (27, waiting) ∷ [])
+    ++ softWaitSites (op 0x0B) ((50, low other) ∷ (27, ready) ∷ [])
     -- out, with a partner: its Pointer.s, with a store where it enables or waits; then the link of its queue's back
     ++ site (op 0x0B) lastWord kindLoad (λ a. (breg, channel) ∷ []) (λ a. (50, low (stateAt a)) ∷ (index a, enabling) ∷ [])
     ∷ site (op 0x0B) lastWord kindLoad (λ a. (breg, channel) ∷ backAt 1 buffer) (λ a. (50, low (stateAt a)) ∷ (index a, waiting) ∷ [])
@@ -387,8 +396,8 @@ channelled =
     ∷ site (op 0x0B) lastByte kindStore (λ a. (areg, 2) ∷ (breg, channel) ∷ (creg, buffer) ∷ []) (λ a. (50, low other) ∷ (27, a - 1) ∷ [])
     ∷ site (op 0x0B) lastWord kindStore (λ a. (breg, channel) ∷ backAt 1 a) (λ a. (50, low other) ∷ (27, buffer) ∷ [])
     -- outword, outbyte
-    ∷ wrote (op 0x0F)
-    ++ wrote (op 0x0E)
+    ∷ outputLocalSites (op 0x0F)
+    ++ outputLocalSites (op 0x0E)
     -- outword: the bytes from the local 0, of an odd workspace; the bytes to the partner's pointer
     ++ accepted (op 0x0F) lastByte (λ a. (wdescReg, low (a - 3)) ∷ (breg, channel) ∷ []) (λ a. (50, low other) ∷ (27, buffer) ∷ [])
     ∷ refused (op 0x0F) lastByte kindLoad (λ a. (wdescReg, low (a - 2)) ∷ (breg, channel) ∷ []) (λ a. (50, low other) ∷ (27, buffer) ∷ [])
@@ -420,7 +429,15 @@ channelled =
 
 -- ---- Links
 
--- take and give: the byte at the pointer of a link that is moving (01, Links, clocks, slice)
-unfoldable pub linked : ℕ → ℕ → List Site
-linked c kind =
-    site (0x4, 0) lastByte kind (λ a. (pointerReg c, a) ∷ (countReg c, 1) ∷ (channelReg c, activeBit) ∷ []) none ∷ []
+-- take or give: the byte at the pointer of a link that is moving (01, Links, clocks, slice)
+abbrev pub pointerAt : ℕ → ℕ → Settings
+pointerAt c a = (pointerReg c, a) ∷ (countReg c, 1) ∷ (channelReg c, activeBit) ∷ []
+
+-- take from an output link, give to an input link (01, Links, clocks, slice)
+unfoldable pub linkSites : List Bool
+linkSites =
+    makes (λ m. take m 0) unfetched (pointerAt 0) none (lastByte .0)
+    ∷ refuses (λ m. take m 0) unfetched kindLoad (pointerAt 0) none (lastByte .1)
+    ∷ makes (λ m. give m 4 0xAB) unfetched (pointerAt 4) none (lastByte .0)
+    ∷ refuses (λ m. give m 4 0xAB) unfetched kindStore (pointerAt 4) none (lastByte .1)
+    ∷ []
