@@ -8,7 +8,8 @@
 --   timerSites        HandleTimerRequest, tin, talt, taltwt, enbt, dist
 --   channelSites      HandleChannelRequest, in, out, outword, outbyte, resetch, alt, altwt, enbs, diss, enbc, disc
 --   linkSites         take, give
--- What has no site of its own cannot be the first access outside memory:
+-- A procedure that several share has all its sites where its name stands; each other caller of Run has one of its sites. What has no site of
+-- its own cannot be the first access outside memory:
 -- - accesses of fixed words: a hard channel's word, TPtrLoc, the save area;
 -- - a store, or a second load, at an address that the step has loaded before: "with a store" below says that the load's site has it too;
 -- - a place between two that are accessed before it: Iptr.s in altwt and taltwt, TLink.s in tin; and outbyte's byte, in the word just stored.
@@ -398,7 +399,7 @@ channelSites =
     -- outword, outbyte
     ∷ outputLocalSites (op 0x0F)
     ++ outputLocalSites (op 0x0E)
-    -- outword: the bytes from the local 0, of an odd workspace; the bytes to the partner's pointer
+    -- outword: the bytes from the local 0, outside where bit 1 of Wptr is set; the bytes to the partner's pointer
     ++ accepted (op 0x0F) lastByte (λ a. (wdescReg, low (a - 3)) ∷ (breg, channel) ∷ []) (λ a. (50, low other) ∷ (27, buffer) ∷ [])
     ∷ refused (op 0x0F) lastByte kindLoad (λ a. (wdescReg, low (a - 2)) ∷ (breg, channel) ∷ []) (λ a. (50, low other) ∷ (27, buffer) ∷ [])
     ∷ site (op 0x0F) lastByte kindStore (λ a. (breg, channel) ∷ []) (λ a. (50, low other) ∷ (27, a - 3) ∷ [])
