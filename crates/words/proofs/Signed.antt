@@ -259,13 +259,3 @@ rem-minus x y hx gx hy =
 pub later-wraps : (t1 t2 : ℕ) → t1 < 2 ^ 32 → t2 < 2 ^ 32 → later t1 t2 ≡ positive ((t1 + 2 ^ 32 - t2) % 2 ^ 32)
 unfolding later
 later-wraps t1 t2 h1 h2 = ap positive (restore-sub t1 t2 h1 h2)
-
-pub not-positive : {x : ℕ} → 2 ^ 31 ≤ x → positive x ≡ false
-unfolding positive
-not-positive {x = x} h = rw (lt-ltb 0 x (omega arith), le-ltb x (2 ^ 31) h)
-
--- 01, Numbers at the edges: of two times 2 ^ 31 apart neither is later
-pub neither-later : (t : ℕ) → t < 2 ^ 32 → (later t ((t + 2 ^ 31) % 2 ^ 32) ≡ false) × (later ((t + 2 ^ 31) % 2 ^ 32) t ≡ false)
-neither-later t h =
-    let u = (t + 2 ^ 31) % 2 ^ 32 in
-    (later-wraps t u h (omega arith) ∙ not-positive (omega arith), later-wraps u t (omega arith) h ∙ not-positive (omega arith))

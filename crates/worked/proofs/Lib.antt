@@ -1,3 +1,4 @@
 pub mod Scheduling
 pub mod Timers
 pub mod Channels
+pub mod Accesses
