@@ -42,7 +42,7 @@ module _ (m : List ℕ) (w : Work) (none : w .answer ≡ 0) where
   unfolding deleteEnds
   delete-goes p e = go (eqb p (wptr w)) refl e
     where
-      go : (a : Bool) → eqb p (wptr w) ≡ a → pick a true (isOutside m w (atWord p tlinkS)) ≡ false → (p ≡ wptr w → ⊥) × (index (atWord p tlinkS) < length m)
+      go : (a : Bool) → eqb p (wptr w) ≡ a → pick a true (isOutside m (atWord p tlinkS)) ≡ false → (p ≡ wptr w → ⊥) × (index (atWord p tlinkS) < length m)
       go true ea z = absurd (let q : _≡_ {A = ℕ} 0 1 = cc in omega arith)
       go false ea z = (eqb-false p (wptr w) ea, leb-false _ _ z)
 
@@ -58,7 +58,7 @@ module _ (m : List ℕ) (w : Work) (none : w .answer ≡ 0) where
       found : Calm (deleteFinalStep m previous w)
       found = calm-deleteFinalStep m previous (calm-none none)
 
-      go : (a : Bool) → eqb p (wptr w) ≡ a → pick a true (isOutside m w (atWord p tlinkS)) ≡ true
+      go : (a : Bool) → eqb p (wptr w) ≡ a → pick a true (isOutside m (atWord p tlinkS)) ≡ true
           → Calm (ifEq p (wptr w) (deleteFinalStep m previous w) (deleteWalk m (suc turns) (atWord p tlinkS) w))
       go true ea z = rw (yes-eq (eqb-true p (wptr w) ea)) found
       go false ea z = on-eq Calm p (wptr w) found (delete-lost turns (atWord p tlinkS) (leb-true _ _ z))

@@ -48,10 +48,10 @@ module _ (m : List ℕ) (time : ℕ) (w : Work) (none : w .answer ≡ 0) where
   insert-goes : (p : ℕ) → insertEnds m w time p ≡ false
       → (p ≡ notProcess → ⊥) × (index (atWord p timeS) < length m) × (later time (wordAt m (atWord p timeS) w) ≡ true) × (index (atWord p tlinkS) < length m)
   unfolding insertEnds
-  insert-goes p e = go (eqb p notProcess) refl (isOutside m w (atWord p timeS)) refl (later time (wordAt m (atWord p timeS) w)) refl e
+  insert-goes p e = go (eqb p notProcess) refl (isOutside m (atWord p timeS)) refl (later time (wordAt m (atWord p timeS) w)) refl e
     where
-      go : (a : Bool) → eqb p notProcess ≡ a → (b : Bool) → isOutside m w (atWord p timeS) ≡ b → (c : Bool) → later time (wordAt m (atWord p timeS) w) ≡ c
-          → pick a true (pick b true (pick c (isOutside m w (atWord p tlinkS)) true)) ≡ false
+      go : (a : Bool) → eqb p notProcess ≡ a → (b : Bool) → isOutside m (atWord p timeS) ≡ b → (c : Bool) → later time (wordAt m (atWord p timeS) w) ≡ c
+          → pick a true (pick b true (pick c (isOutside m (atWord p tlinkS)) true)) ≡ false
           → (p ≡ notProcess → ⊥) × (index (atWord p timeS) < length m) × (later time (wordAt m (atWord p timeS) w) ≡ true) × (index (atWord p tlinkS) < length m)
       go true ea b eb c ec z = absurd (let q : _≡_ {A = ℕ} 0 1 = cc in omega arith)
       go false ea true eb c ec z = absurd (let q : _≡_ {A = ℕ} 0 1 = cc in omega arith)
@@ -64,7 +64,7 @@ module _ (m : List ℕ) (time : ℕ) (w : Work) (none : w .answer ≡ 0) where
   unfolding insertEnds
   insert-stays turns previous h e =
       rw (insert-turn (suc turns) previous h)
-      (go (eqb p notProcess) refl (isOutside m w (atWord p timeS)) refl (later time (wordAt m (atWord p timeS) w)) refl e)
+      (go (eqb p notProcess) refl (isOutside m (atWord p timeS)) refl (later time (wordAt m (atWord p timeS) w)) refl e)
     where
       p : ℕ
       p = wordAt m previous w
@@ -78,8 +78,8 @@ module _ (m : List ℕ) (time : ℕ) (w : Work) (none : w .answer ≡ 0) where
       found : Calm (insertFinalStep m previous p on)
       found = calm-insertFinalStep m previous p (calm-access m 2 (atWord p timeS) calm)
 
-      go : (a : Bool) → eqb p notProcess ≡ a → (b : Bool) → isOutside m w (atWord p timeS) ≡ b → (c : Bool) → later time (wordAt m (atWord p timeS) w) ≡ c
-          → pick a true (pick b true (pick c (isOutside m w (atWord p tlinkS)) true)) ≡ true
+      go : (a : Bool) → eqb p notProcess ≡ a → (b : Bool) → isOutside m (atWord p timeS) ≡ b → (c : Bool) → later time (wordAt m (atWord p timeS) w) ≡ c
+          → pick a true (pick b true (pick c (isOutside m (atWord p tlinkS)) true)) ≡ true
           → Calm
           (ifEq p notProcess (insertFinalStep m previous p w)
           (pick (later time (wordAt m (atWord p timeS) w)) (insertWalk m (suc turns) time (atWord p tlinkS) on) (insertFinalStep m previous p on)))
