@@ -16,3 +16,4 @@ pub mod Calm
 pub mod InsertRing
 pub mod DeleteRing
 pub mod Steps
+pub mod Stops
