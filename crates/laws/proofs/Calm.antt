@@ -58,13 +58,17 @@ pub refused-stays : (n : ℕ) (w v : Work) → length (w .regs) ≡ registers �
     → ((P : ℕ → ℕ → ℕ → Type 0) → ((k : ℕ) → Turns P k) → Fine P w → Fine P v) → v .answer ≡ n
 refused-stays n w v h z e keep = keep (Answer (Is n)) (λ k kind a q. absurd (z q)) (is-fine n w h z e) .known
 
--- what asks nothing of 11 makes no Stop, and takes none away
+-- what asks nothing of a number, which is not that of an access outside, turns no answer into it, and takes none away
+pub same-number : (n : ℕ) → (0 ≡ n → ⊥) → (outside ≡ n → ⊥) → (w v : Work) → length (w .regs) ≡ registers
+    → ((P : ℕ → ℕ → ℕ → Type 0) → ((k : ℕ) → (k ≡ n → ⊥) → Turns P k) → Fine P w → Fine P v) → eqb (w .answer) n ≡ eqb (v .answer) n
+same-number n z t w v h keep =
+    cases-eq (w .answer) n
+    (λ e. eq-eqb _ _ e ∙ sym (eq-eqb _ _ (refused-stays n w v h z e (λ P t f. keep P (λ k n. t k) f))))
+    (λ e. ne-eqb _ _ e ∙ sym (ne-eqb _ _ (keep (Answer (Not n)) (not-turns n) (not-fine n w h t e) .known)))
+
 pub same-stop : (w v : Work) → length (w .regs) ≡ registers
     → ((P : ℕ → ℕ → ℕ → Type 0) → ((k : ℕ) → (k ≡ stop → ⊥) → Turns P k) → Fine P w → Fine P v) → eqb (w .answer) stop ≡ eqb (v .answer) stop
-same-stop w v h keep =
-    cases-eq (w .answer) stop
-    (λ e. eq-eqb _ _ e ∙ sym (eq-eqb _ _ (refused-stays stop w v h (λ q. omega (arith, q)) e (λ P t f. keep P (λ k n. t k) f))))
-    (λ e. ne-eqb _ _ e ∙ sym (ne-eqb _ _ (keep (Answer (Not stop)) (not-turns stop) (not-fine stop w h (λ q. omega (arith, q)) e) .known)))
+same-stop w v h keep = same-number stop (λ q. omega (arith, q)) (λ q. omega (arith, q)) w v h keep
 
 -- ---- an access inside memory changes nothing; one outside is refused for good
 
@@ -86,7 +90,7 @@ module _ (m : List ℕ) (kind a : ℕ) (w : Work) where
       → ((P : ℕ → ℕ → ℕ → Type 0) → ((k : ℕ) → Turns P k) → Fine P (access m kind a w) → Fine P v) → Calm v
   lost h out e v keep =
       let f = keep (Answer (Is outside)) (λ k kind a q. absurd (let z : _≡_ {A = ℕ} 0 10 = q in omega arith))
-          (is-fine outside (access m kind a w) (fine-access m kind a (calm-none h e) .count) (λ q. omega (arith, q)) (outside-out out e .is)) in
+      (is-fine outside (access m kind a w) (fine-access m kind a (calm-none h e) .count) (λ q. omega (arith, q)) (outside-out out e .is)) in
       not-fine stop v (f .count) (λ q. omega (arith, q)) (λ q. omega (arith, q, f .known))
 
 -- ---- a test of a place tells whether it Stops

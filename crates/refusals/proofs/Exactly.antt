@@ -20,7 +20,7 @@ use Rattle.rules.specs.Step as steps
 use Rattle.rules.specs.Calls as rules
 use Rattle.rules.specs.declared.Machine.{Machine}
 use Rattle.rules.proofs.Tests.{yes-lt, no-lt, yes-eq, no-eq, yes, no, by-bool, cases-eq, cases-lt, on-eq, on-lt, on-le, on-pick}
-use Rattle.refusals.specs.Conditions.{firstOf, frame, lastTooLong, pairOutside, nothingToUndo, isHalted, asked, isIdle, isUnlisted, isMoving, isHeld, takeNotReady, giveNotReady, pointerOutside, full, tickNumbers, takeNumbers, giveNumbers, eventNumbers, undoNumbers, clearNumbers, freshNumbers, stepOutside, stepStops, stepNumbers}
+use Rattle.refusals.specs.Conditions.{firstOf, frame, lastTooLong, pairOutside, nothingToUndo, isHalted, asked, isIdle, isUnlisted, isMoving, isHeld, takeNotReady, giveNotReady, pointerOutside, full, tickNumbers, takeNumbers, giveNumbers, eventNumbers, undoNumbers, clearNumbers, freshNumbers, stepOutside, stops, stepNumbers}
 use Rattle.refusals.proofs.Own.{own-first}
 
 -- an answer picked is the picked answer
@@ -225,7 +225,7 @@ module _ (r mem : List ℕ) where
       (λ o. rw (no-eq o) (idle-answer i)))
 
   step-own : length r ≡ registers → steps.step mem (begin r) .answer
-      ≡ firstOf ((6, isHalted r) ∷ (7, isIdle r) ∷ (9, isUnlisted r mem) ∷ (10, stepOutside r mem) ∷ (11, stepStops r mem) ∷ [])
+      ≡ firstOf ((6, isHalted r) ∷ (7, isIdle r) ∷ (9, isUnlisted r mem) ∷ (10, stepOutside r mem) ∷ (11, stops r mem) ∷ [])
   unfolding steps.step firstOf
   step-own k =
       cases-eq (bitAnd (getD r flagsReg 0) haltedFlag) 0
@@ -247,5 +247,5 @@ step-exactly m mem j h =
         ∷ (7, isIdle (m .regs))
         ∷ (9, isUnlisted (m .regs) mem)
         ∷ (10, stepOutside (m .regs) mem)
-        ∷ (11, stepStops (m .regs) mem)
+        ∷ (11, stops (m .regs) mem)
         ∷ []

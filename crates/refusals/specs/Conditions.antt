@@ -5,7 +5,7 @@ use mathlib.Core.Bool.{Bool, true, false, _&&_, _||_, not}
 use mathlib.Core.List.{List, [], _∷_}
 use lib.Dec.{ltb, leb, eqb}
 use lib.ListN.{length, getD}
-use Rattle.rules.specs.Tests.{pick, ifEq, ifSet}
+use Rattle.rules.specs.Tests.{pick, ifLt, ifEq, ifSet, look}
 use Rattle.rules.specs.Registers.{iptrReg, oreg, statusReg, flagsReg, pointerReg, countReg, channelReg, haltedFlag, idleFlag, activeBit, heldBit, linkChans, eventChannel}
 use Rattle.rules.specs.Words.{index, withNibble}
 use Rattle.rules.specs.Memory.{touched}
@@ -17,6 +17,7 @@ use Rattle.rules.specs.Links as links
 use Rattle.rules.specs.Step as steps
 use Rattle.rules.specs.Calls.{sizeBad, codeBad, notOutput, notInput}
 use Rattle.rules.specs.declared.Machine.{Machine}
+use Rattle.laws.specs.Stops.{stopPlaces, nowhere, requestStops, timerStops}
 
 -- the first number whose condition holds, 0 where none does (01, Answers by number: checks run in the order of the table)
 unfoldable pub firstOf : List (ℕ × Bool) → ℕ
@@ -84,14 +85,17 @@ isBuilt k =
 abbrev pub nextByte : List ℕ → List ℕ → ℕ
 nextByte r mem = byteAt mem (getD r iptrReg 0) (begin r)
 
--- 9 Unlisted: the byte was fetched, and makes an operation outside the built list: its function is `opr`, and Oreg with its nibble
--- is no code of the list (01, Answers by number; DECISIONS 1)
+-- (c) makes an operation: the byte at Iptr is inside memory, and its function is `opr` (01, One step (c); 000 1.11, operate)
+abbrev pub operates : List ℕ → List ℕ → Bool
+operates r mem = fetches r && ltb (index (getD r iptrReg 0)) (length mem) && eqb (nextByte r mem / 2 ^ 4) 0xF
+
+-- the code of that operation: Oreg with the byte's nibble (DECISIONS 1, 2)
+abbrev pub nextCode : List ℕ → List ℕ → ℕ
+nextCode r mem = withNibble (nextByte r mem) (getD r oreg 0)
+
+-- 9 Unlisted: the byte was fetched, and makes an operation outside the built list (01, Answers by number; DECISIONS 1)
 unfoldable pub isUnlisted : List ℕ → List ℕ → Bool
-isUnlisted r mem =
-    fetches r
-    && ltb (index (getD r iptrReg 0)) (length mem)
-    && eqb (nextByte r mem / 2 ^ 4) 0xF
-    && not (isBuilt (withNibble (nextByte r mem) (getD r oreg 0)))
+isUnlisted r mem = operates r mem && not (isBuilt (nextCode r mem))
 
 -- 10 Outside, of take and give: the byte at the pointer of a moving link (01, Answers by number; DECISIONS 32)
 abbrev pub pointerOutside : ℕ → List ℕ → List ℕ → Bool
@@ -106,9 +110,23 @@ ownAnswer r mem = steps.choose mem (begin r) .answer
 abbrev pub stepOutside : List ℕ → List ℕ → Bool
 stepOutside r mem = eqb (ownAnswer r mem) 10
 
+-- the work after the fetch: nothing is stored, and the registers but Iptr and Oreg are those of the step's start (01, One step (c))
+abbrev pub afterFetch : List ℕ → List ℕ → Work
+afterFetch r mem = steps.fetched (nextByte r mem) (begin r)
+
+-- (c) Stops: the byte makes an operation that Stops at its place (01, Answers by number; DECISIONS 26)
+unfoldable pub operationStops : List ℕ → List ℕ → Bool
+operationStops r mem = operates r mem && look stopPlaces (nextCode r mem) nowhere mem (afterFetch r mem)
+
+-- (a) or (b) Stops: the channel, else the timer that is served (01, One step (a), (b); DECISIONS 26)
+unfoldable pub serviceStops : List ℕ → List ℕ → Bool
+serviceStops r mem =
+    ifLt (requested (begin r)) linkChans (requestStops (requested (begin r)) mem (begin r))
+    (pick (timerReady 0 (begin r)) (timerStops 0 mem (begin r)) (timerStops 1 mem (begin r)))
+
 -- 11 Stop: an IF of 000 with no true branch, or a ring in a timer queue (01, Answers by number; DECISIONS 26, 27)
-abbrev pub stepStops : List ℕ → List ℕ → Bool
-stepStops r mem = eqb (ownAnswer r mem) 11
+unfoldable pub stops : List ℕ → List ℕ → Bool
+stops r mem = pick (fetches r) (operationStops r mem) (serviceStops r mem)
 
 -- 12 JournalFull: the record of the worked-out call does not fit after used (01, Answers by number)
 abbrev pub full : Machine → List ℕ → List ℕ → Work → Bool
@@ -157,7 +175,7 @@ module _ (m : Machine) (mem j : List ℕ) where
       ∷ (7, isIdle (m .regs))
       ∷ (9, isUnlisted (m .regs) mem)
       ∷ (10, stepOutside (m .regs) mem)
-      ∷ (11, stepStops (m .regs) mem)
+      ∷ (11, stops (m .regs) mem)
       ∷ (12, full m mem j (steps.step mem (begin (m .regs))))
       ∷ []
 
