@@ -8,6 +8,7 @@ pub mod FineOperations
 pub mod FineStep
 pub mod Stores
 pub mod Touched
+pub mod Single
 pub mod Calls
 pub mod Unique
 pub mod Pigeon

@@ -1,3 +1,4 @@
 pub mod Built
 pub mod Own
+pub mod Stored
 pub mod Exactly
