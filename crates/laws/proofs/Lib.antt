@@ -18,3 +18,4 @@ pub mod InsertRing
 pub mod DeleteRing
 pub mod Steps
 pub mod Stops
+pub mod Start

@@ -1,6 +1,5 @@
 -- The places where a step Stops (01, Answers by number, 11; DECISIONS 26, 27): an IF of 000 with no true branch, or a ring in a timer queue.
--- Each is a test of the memory before the call and of the work at that place: the registers and the stores so far. At the places of an
--- instruction the work is that after the fetch, whose registers but Iptr and Oreg are those of the step's start.
+-- Each is a test of memory and work at the step's start. Where stores come before a place, the test names the work after them.
 use mathlib.Core.Bool.{Bool, true, false, _&&_, _||_, not}
 use mathlib.Core.List.{List, [], _∷_}
 use Prim.Native.Nat.{ℕ}
@@ -15,7 +14,7 @@ use Rattle.rules.specs.Timers.{tptrLoc, nextTime, timerUnlink}
 use Rattle.laws.specs.Lists.{listed}
 use Rattle.laws.specs.Ring.{isOutside, insertRings, deleteRings}
 
--- a place: a test of the memory before the call and of the work there (DECISIONS 26, 44)
+-- a place: a test of memory and of work, which is a list of registers and the stores so far (DECISIONS 26, 44)
 abbrev pub Place : Type 0
 Place = List ℕ → Work → Bool
 

@@ -31,7 +31,8 @@ use Rattle.laws.proofs.FineOperations.{fine-operate, fine-direct, operate-unlis
 use Rattle.laws.proofs.FineStep.{fine-fetched, fine-decode, fine-instruction}
 use Rattle.laws.proofs.Calm.{never, Answer, Is, Not, not-turns, not-fine, any-fine, refused-stays, same-number, same-stop, Tells, inside-same, outside-out}
 use Rattle.laws.proofs.Stops.{Begun, request-stops, timer-stops, operate-stops}
-use Rattle.refusals.specs.Conditions.{firstOf, asked, fetches, isIdle, isBuilt, nextByte, operates, nextCode, isUnlisted, afterFetch, operationStops, serviceStops, stops}
+use Rattle.laws.proofs.Start.{place-fetched}
+use Rattle.refusals.specs.Conditions.{firstOf, asked, fetches, isIdle, isBuilt, nextByte, operates, nextCode, isUnlisted, operationStops, serviceStops, stops}
 use Rattle.refusals.proofs.Built.{built-listed}
 
 module _ (r mem : List ℕ) where
@@ -97,14 +98,17 @@ module _ (r mem : List ℕ) (h : length r ≡ registers) where
       refused-stays outside (access mem kindFetch (getD r iptrReg 0) (begin r)) _ (fine-access mem kindFetch (getD r iptrReg 0) (any-fine (begin r) h) .count) (λ z. omega (arith, z)) (outside-out mem kindFetch (getD r iptrReg 0) (begin r) b refl .is)
       (λ P t f. fine-decode mem _ (t stop) (t unlisted) (fine-fetched _ f))
 
-  fetch-count : length (afterFetch r mem .regs) ≡ registers
+  abbrev afterFetch : Work
+  afterFetch = fetched (nextByte r mem) (begin r)
+
+  fetch-count : length (afterFetch .regs) ≡ registers
   fetch-count = fine-fetched _ (any-fine (begin r) h) .count
 
-  fetch-answer : afterFetch r mem .answer ≡ 0
+  fetch-answer : afterFetch .answer ≡ 0
   unfolding fetched put
   fetch-answer = refl
 
-  operand : reg oreg (afterFetch r mem) ≡ nextCode r mem
+  operand : reg oreg (afterFetch) ≡ nextCode r mem
   unfolding fetched put
   operand =
       getD-set-same (set r iptrReg (atByte (getD r iptrReg 0) 1)) oreg (nextCode r mem) 0
@@ -116,7 +120,7 @@ module _ (r mem : List ℕ) (h : length r ≡ registers) where
 
   -- ---- a number that an instruction can answer only by an operation: 9, or 11
 
-  module _ (n : ℕ) (some : 0 ≡ n → ⊥) (other : outside ≡ n → ⊥) (t : Bool) (told : t ≡ eqb (operate (nextCode r mem) mem (afterFetch r mem) .answer) n)
+  module _ (n : ℕ) (some : 0 ≡ n → ⊥) (other : outside ≡ n → ⊥) (t : Bool) (told : t ≡ eqb (operate (nextCode r mem) mem (afterFetch) .answer) n)
       (f : fetches r ≡ true) where
     Told : Work → Type 0
     Told w = (operates r mem && t) ≡ eqb (w .answer) n
@@ -124,10 +128,10 @@ module _ (r mem : List ℕ) (h : length r ≡ registers) where
     told-not : (a : ℕ) → operates r mem ≡ false → (a ≡ n → ⊥) → (operates r mem && t) ≡ eqb a n
     told-not a o q = rw o (sym (ne-eqb a n q))
 
-    plain : Fine (Answer (Not n)) (afterFetch r mem)
+    plain : Fine (Answer (Not n)) (afterFetch)
     plain = not-fine n _ fetch-count other (λ q. some (sym fetch-answer ∙ q))
 
-    told-inside : index (getD r iptrReg 0) < length mem → Told (decode mem (nextByte r mem / 2 ^ 4) (afterFetch r mem))
+    told-inside : index (getD r iptrReg 0) < length mem → Told (decode mem (nextByte r mem / 2 ^ 4) (afterFetch))
     unfolding decode execute Told
     told-inside b =
         cases-eq (nextByte r mem / 2 ^ 4) 0x2
@@ -136,17 +140,17 @@ module _ (r mem : List ℕ) (h : length r ≡ registers) where
         (λ e. rw (no-eq n₂, yes-eq e) (told-not _ (not-opr (λ q. omega (arith, e, q))) (fine-putCore _ plain .known)))
         (λ n₆. rw (no-eq n₂, no-eq n₆)
         (cases-eq (nextByte r mem / 2 ^ 4) 0xF
-        (λ e. subst (λ (c : ℕ). Told (actOnSNP mem (put oreg 0 (function c mem (afterFetch r mem))))) (sym e) (rw (function-opr mem (afterFetch r mem), operand) (is-opr e)))
+        (λ e. subst (λ (c : ℕ). Told (actOnSNP mem (put oreg 0 (function c mem (afterFetch))))) (sym e) (rw (function-opr mem (afterFetch), operand) (is-opr e)))
         (λ n₁₅. told-not _ (not-opr n₁₅) (fine-actOnSNP mem (fine-put oreg 0 (fine-direct (nextByte r mem / 2 ^ 4) mem small n₂ n₆ n₁₅ plain)) .known)))))
       where
         not-opr : (nextByte r mem / 2 ^ 4 ≡ 0xF → ⊥) → operates r mem ≡ false
         not-opr q = rw (f, lt-ltb (index (getD r iptrReg 0)) (length mem) b, ne-eqb (nextByte r mem / 2 ^ 4) 0xF q)
 
-        is-opr : nextByte r mem / 2 ^ 4 ≡ 0xF → Told (actOnSNP mem (put oreg 0 (operate (nextCode r mem) mem (afterFetch r mem))))
+        is-opr : nextByte r mem / 2 ^ 4 ≡ 0xF → Told (actOnSNP mem (put oreg 0 (operate (nextCode r mem) mem (afterFetch))))
         is-opr e =
             rw (f, lt-ltb (index (getD r iptrReg 0)) (length mem) b, eq-eqb (nextByte r mem / 2 ^ 4) 0xF e)
             (told
-            ∙ same-number n some other (operate (nextCode r mem) mem (afterFetch r mem)) _
+            ∙ same-number n some other (operate (nextCode r mem) mem (afterFetch)) _
             (fine-operate (nextCode r mem) mem (λ c k a z kind address. tt) (λ l k a z kind address. tt) (any-fine _ fetch-count) .count)
             (λ P t f. fine-actOnSNP mem (fine-put oreg 0 f)))
 
@@ -160,21 +164,21 @@ module _ (r mem : List ℕ) (h : length r ≡ registers) where
   -- ---- 9
 
   -- an operation is refused with 9 exactly where it is outside the built list
-  operate-nine : not (isBuilt (nextCode r mem)) ≡ eqb (operate (nextCode r mem) mem (afterFetch r mem) .answer) 9
+  operate-nine : not (isBuilt (nextCode r mem)) ≡ eqb (operate (nextCode r mem) mem (afterFetch) .answer) 9
   unfolding refuseAt
   operate-nine =
       by-bool (listed (nextCode r mem) operations)
       (λ l. rw (built-listed (nextCode r mem), l)
       (sym (ne-eqb _ 9 (fine-operate (nextCode r mem) mem (λ c. not-turns 9 11 (λ q. omega (arith, q))) (λ z. never (sym z ∙ l)) plain .known))))
-      (λ l. rw (built-listed (nextCode r mem), l, operate-unlisted (nextCode r mem) mem (afterFetch r mem) l, yes-eq fetch-answer) refl)
+      (λ l. rw (built-listed (nextCode r mem), l, operate-unlisted (nextCode r mem) mem (afterFetch) l, yes-eq fetch-answer) refl)
     where
-      plain : Fine (Answer (Not 9)) (afterFetch r mem)
+      plain : Fine (Answer (Not 9)) (afterFetch)
       plain = not-fine 9 _ fetch-count (λ q. omega (arith, q)) (λ q. omega (arith, q, fetch-answer))
 
   begun : Begun (begin r)
   begun = record { count = h; none = refl }
 
-  fetch-begun : Begun (afterFetch r mem)
+  fetch-begun : Begun (afterFetch)
   fetch-begun = record { count = fetch-count; none = fetch-answer }
 
   -- what is served is not refused with 9
@@ -202,7 +206,7 @@ module _ (r mem : List ℕ) (h : length r ≡ registers) where
       (λ f a. rw (f, a) (request-stops mem (requested (begin r)) begun ∙ after _ (fine-handleChannelRequest mem _ (λ k a z kind address. tt) (any-fine (begin r) h) .count)))
       (λ f a b. rw (f, a, b) (timer-stops mem 0 begun ∙ after _ (fine-handleTimerRequest mem 0 (λ k a z kind address. tt) (any-fine (begin r) h) .count)))
       (λ f a b. rw (f, a, b) (timer-stops mem 1 begun ∙ after _ (fine-handleTimerRequest mem 1 (λ k a z kind address. tt) (any-fine (begin r) h) .count)))
-      (λ f. yes f _ _ ∙ told-instruction 11 (λ q. omega (arith, q)) (λ q. omega (arith, q)) _ (operate-stops (nextCode r mem) mem fetch-begun) f)
+      (λ f. yes f _ _ ∙ told-instruction 11 (λ q. omega (arith, q)) (λ q. omega (arith, q)) _ (sym (place-fetched (nextCode r mem) (nextByte r mem) mem (begin r)) ∙ operate-stops (nextCode r mem) mem fetch-begun) f)
     where
       after : (w : Work) → length (w .regs) ≡ registers → eqb (w .answer) stop ≡ eqb (actOnSNP mem w .answer) stop
       after w k = same-stop w (actOnSNP mem w) k (λ P t f. fine-actOnSNP mem f)

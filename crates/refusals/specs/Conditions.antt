@@ -114,13 +114,9 @@ ownAnswer r mem = steps.choose mem (begin r) .answer
 abbrev pub stepOutside : List ℕ → List ℕ → Bool
 stepOutside r mem = eqb (ownAnswer r mem) 10
 
--- the work after the fetch: nothing is stored, and the registers but Iptr and Oreg are those of the step's start (01, One step (c))
-abbrev pub afterFetch : List ℕ → List ℕ → Work
-afterFetch r mem = steps.fetched (nextByte r mem) (begin r)
-
 -- (c) Stops: the byte makes an operation that Stops at its place (01, Answers by number; DECISIONS 26)
 unfoldable pub operationStops : List ℕ → List ℕ → Bool
-operationStops r mem = operates r mem && look stopPlaces (nextCode r mem) nowhere mem (afterFetch r mem)
+operationStops r mem = operates r mem && look stopPlaces (nextCode r mem) nowhere mem (begin r)
 
 -- (a) or (b) Stops: the channel, else the timer that is served (01, One step (a), (b); DECISIONS 26)
 unfoldable pub serviceStops : List ℕ → List ℕ → Bool
