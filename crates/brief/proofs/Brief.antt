@@ -16,7 +16,7 @@ use Rattle.rules.specs.declared.Machine.{Machine}
 use Rattle.rules.proofs.Tests.{yes-eq}
 use Rattle.swift.specs.declared.Swift.{Swift}
 use Rattle.swift.specs.Swift.{swiftWork}
-use Rattle.brief.proofs.Single.{touched-none, touched-one, touched-past, stores-one, stores-past, stores-no}
+use Rattle.laws.proofs.Single.{touched-none, touched-one, touched-past, stores-one, stores-past, stores-no}
 use Rattle.record_parts.proofs.Written.{sets-append}
 use Rattle.laws.proofs.Touched.{length-olds}
 use Rattle.brief.specs.Count.{Counted, listed, made, storesOf}

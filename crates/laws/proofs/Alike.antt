@@ -19,7 +19,7 @@ use Rattle.rules.specs.declared.Both.{Both}
 use Rattle.rules.proofs.Tests.{yes-lt, no-lt, yes-eq, no-eq, cases-lt, cases-eq}
 use Rattle.laws.specs.Alike.{StoreInside, Inside, Witness, Unrefused, Alike, beyond, refused, same}
 use Rattle.laws.proofs.Fine.{Fine, Turns, fine-put, fine-raise, fine-lower, fine-gotoSNP, fine-putCore, fine-putSystem, fine-putBoth, fine-refuseAt, fine-refuse, fine-append, fine-attempted, fine-access, fine-storeWord, fine-storeByte, fine-rIndexWord, fine-rIndexByte, fine-wIndexWord, fine-settleMove, fine-transfer}
-use Rattle.laws.proofs.Calm.{inside-same}
+use Rattle.laws.proofs.Calm.{any-fine, inside-same}
 use Rattle.laws.proofs.Appended.{word-appended, inside-snoc}
 
 -- ---- a refusal that came first stays, with the kind and address of its access
@@ -40,10 +40,6 @@ as-is w h c = record { count = c; known = (refl, refl, refl); ten = never-turns 
 pub refused-with : (number : ℕ) (w : Work) → w .answer ≡ 0 → refuse number w .answer ≡ number
 unfolding refuseAt
 refused-with number w e = rw (yes-eq e)
-
--- of any work: how many registers it has
-pub any-fine : (w : Work) → length (w .regs) ≡ registers → Fine (λ n k a. Unit {0}) w
-any-fine w c = record { count = c; known = tt; ten = λ k a z kind address. tt }
 
 -- ---- tests: a relation of both answers is one of the test's
 

@@ -19,7 +19,8 @@ use Rattle.rules.specs.Timers.{deleteFinalStep, deleteFirstStep, deleteLink, de
 use Rattle.laws.specs.Alike.{Alike, Unrefused, refused}
 use Rattle.laws.proofs.Fine.{Fine, fine-access}
 use Rattle.laws.proofs.FineTimers.{fine-deleteFinalStep, fine-deleteFirstStep, fine-deleteLink, fine-deleteNext, fine-deleteWalk, fine-dist, fine-distLink, fine-distReady, fine-distSet, fine-dropB, fine-enbt, fine-enbtEarlier, fine-enbtFirst, fine-enbtGuard, fine-enbtLink, fine-handleTimerRequest, fine-insertFinalStep, fine-insertFirstStep, fine-insertLink, fine-insertNext, fine-insertWalk, fine-isThisSelectedProcess, fine-nextTime, fine-selectFirst, fine-setNext, fine-talt, fine-taltwt, fine-taltwtLink, fine-taltwtState, fine-taltwtTime, fine-timedOut, fine-timeNow, fine-timerFront, fine-timerNext, fine-timerServe, fine-timerStatus, fine-timerUnlink, fine-timerWake, fine-tin}
-use Rattle.laws.proofs.Alike.{access-then, alike-gotoSNP, alike-lower, alike-put, alike-raise, alike-rIndexWord, alike-stop, alike-wIndexWord, any-fine, both-eq, both-pick, lift, longer, read-then, refused-with, same-word, self, Stays}
+use Rattle.laws.proofs.Calm.{any-fine}
+use Rattle.laws.proofs.Alike.{access-then, alike-gotoSNP, alike-lower, alike-put, alike-raise, alike-rIndexWord, alike-stop, alike-wIndexWord, both-eq, both-pick, lift, longer, read-then, refused-with, same-word, self, Stays}
 use Rattle.laws.proofs.AlikeScheduling.{alike-run, alike-saveIptr, alike-wait}
 
 module _ {size : ℕ} where
@@ -170,7 +171,7 @@ module _ (m x : List ℕ) (small : length m < 2 ^ 30) where
   insert-ring-longer time w u (again h) e = again h
   insert-ring-longer time w u (stays h k) e = absurd (let z : _≡_ {A = ℕ} 0 1 = cc in omega arith)
   insert-ring-longer time w u {passed} {p} (goes h k on) e =
-      let g = insert-goes m time w (u .none) p k in
+      let g = insert-goes m time w (u .count) (u .none) p k in
       goes {passed = passed} {p = p} {r = round} h
       (rw (ne-eqb p notProcess (g .0), lt-leb (length (m ++ x)) (index (atWord p timeS)) (longer m x _ (g .1)), same-word m x (atWord p timeS) w u (g .1), g .2)
       (lt-leb (length (m ++ x)) (index (atWord p tlinkS)) (longer m x _ (g .3))))
@@ -200,8 +201,8 @@ module _ (m x : List ℕ) (small : length m < 2 ^ 30) where
       there : (w : Work) → Unrefused (length m) w → index previous < length m
           → insertWalk m (length m + 2) time previous w .answer ≡ stop → insertWalk (m ++ x) (length (m ++ x) + 2) time previous w .answer ≡ stop
       there w u h e =
-          insert-ring (m ++ x) time w (u .none) previous (longer m x _ h) .1
-          (rw (same-word m x previous w u h) (insert-ring-longer time w u (insert-ring m time w (u .none) previous h .0 e) refl))
+          insert-ring (m ++ x) time w (u .count) (u .none) previous (longer m x _ h) .1
+          (rw (same-word m x previous w u h) (insert-ring-longer time w u (insert-ring m time w (u .count) (u .none) previous h .0 e) refl))
 
   pub alike-insertFirstStep : {w w′ : Work} → Alike (length m) w w′ → Alike (length m) (insertFirstStep m w) (insertFirstStep (m ++ x) w′)
   unfolding insertFirstStep
@@ -255,7 +256,7 @@ module _ (m x : List ℕ) (small : length m < 2 ^ 30) where
   delete-ring-longer w u (again h) e = again h
   delete-ring-longer w u (stays h k) e = absurd (let z : _≡_ {A = ℕ} 0 1 = cc in omega arith)
   delete-ring-longer w u {passed} {p} (goes h k on) e =
-      let g = delete-goes m w (u .none) p k in
+      let g = delete-goes m w (u .count) (u .none) p k in
       goes {passed = passed} {p = p} {r = round} h
       (rw (ne-eqb p (wptr w) (g .0)) (lt-leb (length (m ++ x)) (index (atWord p tlinkS)) (longer m x _ (g .1))))
       (rw (same-word m x (atWord p tlinkS) w u (g .1)) (delete-ring-longer w u on e))
@@ -282,8 +283,8 @@ module _ (m x : List ℕ) (small : length m < 2 ^ 30) where
       there : (w : Work) → Unrefused (length m) w → index previous < length m
           → deleteWalk m (length m + 2) previous w .answer ≡ stop → deleteWalk (m ++ x) (length (m ++ x) + 2) previous w .answer ≡ stop
       there w u h e =
-          delete-ring (m ++ x) w (u .none) previous (longer m x _ h) .1
-          (rw (same-word m x previous w u h) (delete-ring-longer w u (delete-ring m w (u .none) previous h .0 e) refl))
+          delete-ring (m ++ x) w (u .count) (u .none) previous (longer m x _ h) .1
+          (rw (same-word m x previous w u h) (delete-ring-longer w u (delete-ring m w (u .count) (u .none) previous h .0 e) refl))
 
   pub alike-deleteFirstStep : {w w′ : Work} → Alike (length m) w w′ → Alike (length m) (deleteFirstStep m w) (deleteFirstStep (m ++ x) w′)
   unfolding deleteFirstStep

@@ -1,73 +1,80 @@
--- What the walks of Timers.antt do but for their turns is never refused with Stop; and a refusal for an access outside memory stays. Assumes nothing.
-use mathlib.Core.Path.{_≡_, sym, _∙_}
+-- What keeps every property of the answer (Fine) keeps a refusal, and what asks nothing of 11 Stops nowhere. Assumes nothing.
+use mathlib.Core.Path.{_≡_, refl, sym, subst, _∙_}
+use mathlib.Core.Logic.{_↔_}
+use mathlib.Core.Bool.{Bool, true, false, _&&_, not}
 use mathlib.Core.List.{List}
-use Prim.Native.Nat.{ℕ, zero, suc, _≤_, _<_}
+use Prim.Native.Nat.{ℕ, _≤_, _<_}
 use native.Mathlib.Omega.{arith}
+use borrow.Author.Tests.{eq-eqb, ne-eqb, le-leb, lt-leb}
+use lib.Dec.{eqb, leb}
 use lib.ListN.{length}
-use Rattle.rules.specs.Words.{atWord, index, later}
-use Rattle.rules.specs.Memory.{Store}
-use Rattle.rules.specs.Work.{Work, put, raise, wptr, gotoSNP, stop, outside, refuseAt, refuse, append, wordAt, access, loadWord, storeWord, rIndexWord, wIndexWord}
-use Rattle.rules.specs.Scheduling.{notProcess, tlinkS, timeS, saveIptr}
-use Rattle.rules.specs.Timers.{setNext, insertNext, insertLink, insertFinalStep, insertWalk, deleteNext, deleteLink, deleteFinalStep, deleteWalk}
-use Rattle.rules.proofs.Tests.{yes-lt, no-lt, yes-eq, no-eq, on-pick, on-lt, on-eq}
+use Rattle.rules.specs.Words.{index}
+use Rattle.rules.specs.Registers.{registers}
+use Rattle.rules.specs.Work.{Work, stop, outside, refuseAt, refuse, access, kindLoad, wordAt, loadWord, readWord}
+use Rattle.rules.proofs.Tests.{yes-lt, no-lt, yes-eq, cases-lt, cases-eq}
+use Rattle.laws.specs.Ring.{isOutside}
+use Rattle.laws.specs.Stops.{going}
+use Rattle.laws.proofs.Fine.{Fine, Turns, fine-access}
 
--- ---- no access is refused with Stop
+pub never : {A : Type 0} → _≡_ {A = Bool} false true → A
+never e = absurd (let z : _≡_ {A = ℕ} 0 1 = cc in omega arith)
 
-pub record Calm (w : Work) : Type 0 where
-  pub not-stop : w .answer ≡ stop → ⊥
+-- ---- properties of the answer alone
 
--- an access outside memory was met: its refusal stays
-pub record Out (w : Work) : Type 0 where
-  pub is : w .answer ≡ outside
+abbrev pub Answer : (ℕ → Type 0) → ℕ → ℕ → ℕ → Type 0
+Answer Q n kind address = Q n
 
-pub calm-out : {w : Work} → Out w → Calm w
-calm-out t = record { not-stop = λ e. let z : _≡_ {A = ℕ} 10 11 = sym (t .is) ∙ e in omega arith }
+-- a refusal that came first stays
+abbrev pub Is : ℕ → ℕ → Type 0
+Is n k = k ≡ n
 
-pub calm-none : {w : Work} → w .answer ≡ 0 → Calm w
-calm-none h = record { not-stop = λ e. let z : _≡_ {A = ℕ} 0 11 = sym h ∙ e in omega arith }
+abbrev pub Not : ℕ → ℕ → Type 0
+Not n k = k ≡ n → ⊥
 
-calm-put : (k v : ℕ) {w : Work} → Calm w → Calm (put k v w)
-unfolding put
-calm-put k v c = record { not-stop = c .not-stop }
+pub not-turns : (n k : ℕ) → (k ≡ n → ⊥) → Turns (Answer (Not n)) k
+not-turns n k h kind a z kind′ address = h
 
-calm-raise : (k mask : ℕ) {w : Work} → Calm w → Calm (raise k mask w)
-unfolding raise
-calm-raise k mask c = calm-put _ _ c
+pub is-fine : (n : ℕ) (w : Work) → length (w .regs) ≡ registers → (0 ≡ n → ⊥) → w .answer ≡ n → Fine (Answer (Is n)) w
+is-fine n w h z e = record { count = h; known = e; ten = λ k a q kind address. absurd (z q) }
 
-calm-append : (s : Store) {w : Work} → Calm w → Calm (append s w)
-unfolding append
-calm-append s c = on-eq Calm _ _ (record { not-stop = c .not-stop }) c
+pub not-fine : (n : ℕ) (w : Work) → length (w .regs) ≡ registers → (outside ≡ n → ⊥) → (w .answer ≡ n → ⊥) → Fine (Answer (Not n)) w
+not-fine n w h z e = record { count = h; known = e; ten = not-turns n outside z }
 
-pub calm-access : (m : List ℕ) (kind a : ℕ) {w : Work} → Calm w → Calm (access m kind a w)
-unfolding access refuseAt
-calm-access m kind a c = on-lt Calm _ _ c (on-eq Calm _ _ (record { not-stop = λ e. omega arith }) c)
+-- any work of 45 registers
+pub any-fine : (w : Work) → length (w .regs) ≡ registers → Fine (λ n kind address. Unit {0}) w
+any-fine w h = record { count = h; known = tt; ten = λ k a z kind address. tt }
 
-calm-wIndexWord : (m : List ℕ) (base n v : ℕ) {w : Work} → Calm w → Calm (wIndexWord m base n v w)
-unfolding wIndexWord storeWord
-calm-wIndexWord m base n v c = calm-append _ (calm-access m _ _ c)
+-- not refused with Stop
+abbrev pub Calm : Work → Type 0
+Calm w = Fine (Answer (Not stop)) w
 
-calm-rIndexWord : (m : List ℕ) (base n k : ℕ) {w : Work} → Calm w → Calm (rIndexWord m base n k w)
-unfolding rIndexWord
-calm-rIndexWord m base n k c = calm-put _ _ (calm-access m _ _ c)
+pub calm-none : {w : Work} → length (w .regs) ≡ registers → w .answer ≡ 0 → Calm w
+calm-none {w} h e = not-fine stop w h (λ q. omega (arith, q)) (λ q. omega (arith, e, q))
 
-calm-setNext : (m : List ℕ) (queue process : ℕ) {w : Work} → Calm w → Calm (setNext m queue process w)
-unfolding setNext
-calm-setNext m queue process c = calm-raise _ _ (calm-rIndexWord m _ _ _ c)
+-- ---- what keeps every property
 
-pub calm-insertFinalStep : (m : List ℕ) (previous subsequent : ℕ) {w : Work} → Calm w → Calm (insertFinalStep m previous subsequent w)
-unfolding insertFinalStep insertNext insertLink saveIptr gotoSNP
-calm-insertFinalStep m previous subsequent c =
-    calm-raise _ _
-    (calm-setNext m _ _
-    (calm-rIndexWord m _ _ _ (calm-put _ _ (calm-wIndexWord m _ _ _ (calm-wIndexWord m _ _ _ (calm-wIndexWord m _ _ _ c))))))
+-- once refused, the number stays
+pub refused-stays : (n : ℕ) (w v : Work) → length (w .regs) ≡ registers → (0 ≡ n → ⊥) → w .answer ≡ n
+    → ((P : ℕ → ℕ → ℕ → Type 0) → ((k : ℕ) → Turns P k) → Fine P w → Fine P v) → v .answer ≡ n
+refused-stays n w v h z e keep = keep (Answer (Is n)) (λ k kind a q. absurd (z q)) (is-fine n w h z e) .known
 
-pub calm-deleteFinalStep : (m : List ℕ) (previous : ℕ) {w : Work} → Calm w → Calm (deleteFinalStep m previous w)
-unfolding deleteFinalStep deleteNext deleteLink
-calm-deleteFinalStep m previous c =
-    let d = calm-rIndexWord m _ _ _ (calm-wIndexWord m _ _ _ (calm-wIndexWord m _ _ _ (calm-rIndexWord m _ _ _ c))) in
-    on-eq Calm _ _ d (calm-setNext m _ _ d)
+-- what asks nothing of a number, which is not that of an access outside, turns no answer into it, and takes none away
+pub same-number : (n : ℕ) → (0 ≡ n → ⊥) → (outside ≡ n → ⊥) → (w v : Work) → length (w .regs) ≡ registers
+    → ((P : ℕ → ℕ → ℕ → Type 0) → ((k : ℕ) → (k ≡ n → ⊥) → Turns P k) → Fine P w → Fine P v) → eqb (w .answer) n ≡ eqb (v .answer) n
+same-number n z t w v h keep =
+    cases-eq (w .answer) n
+    (λ e. eq-eqb _ _ e ∙ sym (eq-eqb _ _ (refused-stays n w v h z e (λ P t f. keep P (λ k n. t k) f))))
+    (λ e. ne-eqb _ _ e ∙ sym (ne-eqb _ _ (keep (Answer (Not n)) (not-turns n) (not-fine n w h t e) .known)))
+
+pub same-stop : (w v : Work) → length (w .regs) ≡ registers
+    → ((P : ℕ → ℕ → ℕ → Type 0) → ((k : ℕ) → (k ≡ stop → ⊥) → Turns P k) → Fine P w → Fine P v) → eqb (w .answer) stop ≡ eqb (v .answer) stop
+same-stop w v h keep = same-number stop (λ q. omega (arith, q)) (λ q. omega (arith, q)) w v h keep
 
 -- ---- an access inside memory changes nothing; one outside is refused for good
+
+-- an access outside memory was met
+pub record Out (w : Work) : Type 0 where
+  pub is : w .answer ≡ outside
 
 module _ (m : List ℕ) (kind a : ℕ) (w : Work) where
   pub inside-same : index a < length m → access m kind a w ≡ w
@@ -78,37 +85,50 @@ module _ (m : List ℕ) (kind a : ℕ) (w : Work) where
   unfolding access refuseAt
   outside-out h e = record { is = rw (no-lt h, yes-eq e) }
 
-  pub out-stays : Out w → Out (access m kind a w)
-  unfolding access refuseAt
-  out-stays o = on-lt Out _ _ o (rw (no-eq never) o)
-    where
-      never : w .answer ≡ 0 → ⊥
-      never e = let z : _≡_ {A = ℕ} 0 10 = sym e ∙ o .is in omega arith
+  -- after one outside, whatever keeps every property is not refused with Stop
+  pub lost : length (w .regs) ≡ registers → length m ≤ index a → w .answer ≡ 0 → (v : Work)
+      → ((P : ℕ → ℕ → ℕ → Type 0) → ((k : ℕ) → Turns P k) → Fine P (access m kind a w) → Fine P v) → Calm v
+  lost h out e v keep =
+      let f = keep (Answer (Is outside)) (λ k kind a q. absurd (let z : _≡_ {A = ℕ} 0 10 = q in omega arith))
+      (is-fine outside (access m kind a w) (fine-access m kind a (calm-none h e) .count) (λ q. omega (arith, q)) (outside-out out e .is)) in
+      not-fine stop v (f .count) (λ q. omega (arith, q)) (λ q. omega (arith, q, f .known))
 
-out-refuse : {w : Work} → Out w → Calm (refuse stop w)
+-- ---- a test of a place tells whether it Stops
+
+-- the work v Stops exactly where the test t holds
+abbrev pub Tells : Bool → Work → Type 0
+Tells t v = t ≡ eqb (v .answer) stop
+
+-- what keeps every property, wherever it comes to
+abbrev pub Keeping : Work → Work → Type 1
+Keeping w v = (P : ℕ → ℕ → ℕ → Type 0) → ((k : ℕ) → Turns P k) → Fine P w → Fine P v
+
+pub tells-calm : {v : Work} → Calm v → Tells false v
+tells-calm c = sym (ne-eqb _ _ (c .known))
+
+pub tells-stop : (w : Work) → w .answer ≡ 0 → Tells true (refuse stop w)
 unfolding refuseAt
-out-refuse {w} o = rw (no-eq never) (calm-out o)
-  where
-    never : w .answer ≡ 0 → ⊥
-    never e = let z : _≡_ {A = ℕ} 0 10 = sym e ∙ o .is in omega arith
+tells-stop w e = rw (yes-eq e)
 
--- once an access was outside, no walk is refused with Stop
-pub out-insertWalk : (m : List ℕ) (turns time previous : ℕ) (w : Work) → Out w → Calm (insertWalk m turns time previous w)
-unfolding insertWalk
-out-insertWalk m zero time previous w o = out-refuse o
-out-insertWalk m (suc turns) time previous w o =
-    let p = wordAt m previous w in
-    let o₁ = out-stays m 2 previous w o in
-    let o₂ = out-stays m 2 (atWord p timeS) (loadWord m previous w) o₁ in
-    on-eq Calm p notProcess (calm-insertFinalStep m previous p (calm-out o₁))
-    (on-pick Calm (later time (wordAt m (atWord p timeS) (loadWord m previous w)))
-    (out-insertWalk m turns time (atWord p tlinkS) (loadWord m (atWord p timeS) (loadWord m previous w)) o₂)
-    (calm-insertFinalStep m previous p (calm-out o₂)))
+pub tells-iff : (t : Bool) (v : Work) {X : Type 0} → (v .answer ≡ stop) ↔ X → (t ≡ true) ↔ X → Tells t v
+tells-iff true v f g = sym (eq-eqb _ _ (f .1 (g .0 refl)))
+tells-iff false v f g = sym (ne-eqb _ _ (λ e. never (g .1 (f .0 e))))
 
-pub out-deleteWalk : (m : List ℕ) (turns previous : ℕ) (w : Work) → Out w → Calm (deleteWalk m turns previous w)
-unfolding deleteWalk
-out-deleteWalk m zero previous w o = out-refuse o
-out-deleteWalk m (suc turns) previous w o =
-    let p = wordAt m previous w in
-    let o₁ = out-stays m 2 previous w o in
-    on-eq Calm p (wptr w) (calm-deleteFinalStep m previous (calm-out o₁)) (out-deleteWalk m turns (atWord p tlinkS) (loadWord m previous w) o₁)
+-- `_&&_` groups to the left
+pub regroup : (a b c : Bool) (v : Work) → Tells (a && (b && c)) v → Tells (a && b && c) v
+regroup true b c v t = t
+regroup false b c v t = t
+
+-- a test that begins with: nothing was refused so far
+pub tells-going : (w v : Work) (t : Bool) → Calm w → Keeping w v → (w .answer ≡ 0 → Tells t v) → Tells (going w && t) v
+tells-going w v t c keep f =
+    cases-eq (w .answer) 0 (λ e. rw (eq-eqb (w .answer) 0 e) (f e))
+    (λ e. rw (ne-eqb (w .answer) 0 e) (sym (ne-eqb _ _ (λ q. c .known (sym (refused-stays (w .answer) w v (c .count) (λ z. e (sym z)) refl keep) ∙ q)))))
+
+-- and one that begins with: the word that is read is inside memory
+pub tells-read : (m : List ℕ) (a : ℕ) (next : ℕ → Work → Work) (w : Work) (t : Bool) → length (w .regs) ≡ registers → w .answer ≡ 0
+    → Keeping (loadWord m a w) (readWord m a next w) → Tells t (next (wordAt m a w) w) → Tells (not (isOutside m a) && t) (readWord m a next w)
+tells-read m a next w t h e keep f =
+    cases-lt (index a) (length m)
+    (λ b. rw (lt-leb (length m) (index a) b) (subst (λ (x : Work). Tells t (next (wordAt m a w) x)) (sym (inside-same m kindLoad a w b)) f))
+    (λ b. rw (le-leb (length m) (index a) b) (tells-calm (lost m kindLoad a w h b e (readWord m a next w) keep)))

@@ -1,27 +1,30 @@
 -- The budget of N + 2 turns of a deletion from a timer queue runs out exactly where a pointer value comes again (DECISIONS 27). Assumes nothing.
 use mathlib.Core.Path.{_≡_, refl, ap, _∙_}
-use mathlib.Core.Bool.{Bool, true, false}
+use mathlib.Core.Bool.{Bool, true, false, _&&_, not}
 use mathlib.Core.Logic.{_↔_, ⊎-elim}
 use mathlib.Core.List.{List}
 use Prim.Native.Nat.{ℕ, zero, suc, _+_, _≤_, _<_}
 use native.Mathlib.Omega.{arith}
-use borrow.Author.Tests.{leb-true, leb-false, eqb-true, eqb-false}
+use borrow.Author.Tests.{leb-true, leb-false, eqb-true, eqb-false, le-leb, lt-leb}
 use lib.Dec.{eqb}
 use lib.ListN.{length, getD}
 use Rattle.rules.specs.Tests.{pick, ifEq}
 use Rattle.rules.specs.Words.{atWord, index}
 use Rattle.rules.specs.Memory.{stores}
+use Rattle.rules.specs.Registers.{registers}
 use Rattle.rules.specs.Work.{Work, wptr, stop, outside, refuseAt, wordAt, loadWord}
 use Rattle.rules.specs.Scheduling.{tlinkS}
 use Rattle.rules.specs.Timers.{deleteFinalStep, deleteWalk}
-use Rattle.rules.proofs.Tests.{yes-eq, no-eq, on-eq}
-use Rattle.laws.specs.Ring.{end, round, nextPointer, isOutside, deleteEnds, DeleteRing}
-use Rattle.laws.proofs.Ring.{budget, budget-round, budget-end, no-end, refused-iff}
-use Rattle.laws.proofs.Calm.{Calm, calm-out, calm-none, calm-deleteFinalStep, inside-same, outside-out, out-deleteWalk}
+use Rattle.rules.proofs.Tests.{yes-eq, no-eq, on-eq, cases-lt}
+use Rattle.laws.specs.Ring.{end, round, nextPointer, isOutside, deleteEnds, deleteRings, DeleteRing}
+use Rattle.laws.proofs.Ring.{budget, budget-round, budget-end, no-end, refused-iff, again-iff}
+use Rattle.laws.proofs.Fine.{Fine}
+use Rattle.laws.proofs.FineTimers.{fine-deleteFinalStep, fine-deleteWalk}
+use Rattle.laws.proofs.Calm.{Calm, calm-none, inside-same, lost, Tells, tells-calm, tells-iff}
 
 -- ---- deletion
 
-module _ (m : List ℕ) (w : Work) (none : w .answer ≡ 0) where
+module _ (m : List ℕ) (w : Work) (count : length (w .regs) ≡ registers) (none : w .answer ≡ 0) where
   -- a turn whose own pointer is inside memory
   delete-turn : (turns previous : ℕ) → index previous < length m
       → deleteWalk m (suc turns) previous w
@@ -34,15 +37,15 @@ module _ (m : List ℕ) (w : Work) (none : w .answer ≡ 0) where
   unfolding deleteWalk
   delete-lost turns previous h =
       let p = wordAt m previous w in
-      let o = outside-out m 2 previous w h none in
-      on-eq Calm p (wptr w) (calm-deleteFinalStep m previous (calm-out o)) (out-deleteWalk m turns (atWord p tlinkS) (loadWord m previous w) o)
+      lost m 2 previous w count h none _
+      (λ P t f. on-eq (Fine P) p (wptr w) (fine-deleteFinalStep m previous f) (fine-deleteWalk m turns (atWord p tlinkS) (t stop) f))
 
   -- what it means that the walk does not end at p
   pub delete-goes : (p : ℕ) → deleteEnds m w p ≡ false → (p ≡ wptr w → ⊥) × (index (atWord p tlinkS) < length m)
   unfolding deleteEnds
   delete-goes p e = go (eqb p (wptr w)) refl e
     where
-      go : (a : Bool) → eqb p (wptr w) ≡ a → pick a true (isOutside m w (atWord p tlinkS)) ≡ false → (p ≡ wptr w → ⊥) × (index (atWord p tlinkS) < length m)
+      go : (a : Bool) → eqb p (wptr w) ≡ a → pick a true (isOutside m (atWord p tlinkS)) ≡ false → (p ≡ wptr w → ⊥) × (index (atWord p tlinkS) < length m)
       go true ea z = absurd (let q : _≡_ {A = ℕ} 0 1 = cc in omega arith)
       go false ea z = (eqb-false p (wptr w) ea, leb-false _ _ z)
 
@@ -56,9 +59,9 @@ module _ (m : List ℕ) (w : Work) (none : w .answer ≡ 0) where
       p = wordAt m previous w
 
       found : Calm (deleteFinalStep m previous w)
-      found = calm-deleteFinalStep m previous (calm-none none)
+      found = fine-deleteFinalStep m previous (calm-none count none)
 
-      go : (a : Bool) → eqb p (wptr w) ≡ a → pick a true (isOutside m w (atWord p tlinkS)) ≡ true
+      go : (a : Bool) → eqb p (wptr w) ≡ a → pick a true (isOutside m (atWord p tlinkS)) ≡ true
           → Calm (ifEq p (wptr w) (deleteFinalStep m previous w) (deleteWalk m (suc turns) (atWord p tlinkS) w))
       go true ea z = rw (yes-eq (eqb-true p (wptr w) ea)) found
       go false ea z = on-eq Calm p (wptr w) found (delete-lost turns (atWord p tlinkS) (leb-true _ _ z))
@@ -98,4 +101,16 @@ module _ (m : List ℕ) (w : Work) (none : w .answer ≡ 0) where
       rw two
       (refused-iff (λ p. index (atWord p tlinkS)) (λ i. getD (stores m (w .stored)) i 0) (deleteEnds m w) (length m) (λ p e. delete-goes p e .1) (suc (length m)) (omega arith) (wordAt m previous w)
       (λ e. delete-round (suc (suc (length m))) previous h e)
-      (λ q e. delete-end (suc (length m)) previous q h e .not-stop))
+      (λ q e. delete-end (suc (length m)) previous q h e .known))
+
+  -- and the test tells it
+  pub delete-rings : (p : ℕ) → (deleteRings m w p ≡ true) ↔ DeleteRing m w p
+  unfolding wordAt deleteRings
+  delete-rings p = again-iff (λ p. index (atWord p tlinkS)) (λ i. getD (stores m (w .stored)) i 0) (deleteEnds m w) (length m) (λ p e. delete-goes p e .1) p
+
+  pub delete-tells : (previous : ℕ) → Tells (not (isOutside m previous) && deleteRings m w (wordAt m previous w)) (deleteWalk m (length m + 2) previous w)
+  delete-tells previous =
+      cases-lt (index previous) (length m)
+      (λ b. rw (lt-leb (length m) (index previous) b) (tells-iff _ (deleteWalk m (length m + 2) previous w) (delete-ring previous b) (delete-rings (wordAt m previous w))))
+      (λ b. let two : length m + 2 ≡ suc (suc (length m)) = omega arith in
+      rw (le-leb (length m) (index previous) b, two) (tells-calm (delete-lost (suc (length m)) previous b)))

@@ -55,7 +55,7 @@ unfolding function functions
 function-opr m w = refl
 
 -- a code without a row gets the default
-pub look-unlisted : (t : List (ℕ × Action)) (k : ℕ) (d : Action) → listed k t ≡ false → look t k d ≡ d
+pub look-unlisted : {A : Type 0} (t : List (ℕ × A)) (k : ℕ) (d : A) → listed k t ≡ false → look t k d ≡ d
 look-unlisted [] k d h = refl
 look-unlisted (e ∷ t) k d h = go (eqb k (e .0)) h (look-unlisted t k d)
   where

@@ -1,27 +1,30 @@
 -- The budget of N + 2 turns of an insertion into a timer queue runs out exactly where a pointer value comes again (DECISIONS 27). Assumes nothing.
 use mathlib.Core.Path.{_≡_, refl, ap, _∙_}
-use mathlib.Core.Bool.{Bool, true, false}
+use mathlib.Core.Bool.{Bool, true, false, _&&_, not}
 use mathlib.Core.Logic.{_↔_, ⊎-elim}
 use mathlib.Core.List.{List}
 use Prim.Native.Nat.{ℕ, zero, suc, _+_, _≤_, _<_}
 use native.Mathlib.Omega.{arith}
-use borrow.Author.Tests.{leb-true, leb-false, eqb-true, eqb-false}
+use borrow.Author.Tests.{leb-true, leb-false, eqb-true, eqb-false, le-leb, lt-leb}
 use lib.Dec.{eqb}
 use lib.ListN.{length, getD}
 use Rattle.rules.specs.Tests.{pick, ifEq}
 use Rattle.rules.specs.Words.{atWord, index, later}
 use Rattle.rules.specs.Memory.{stores}
+use Rattle.rules.specs.Registers.{registers}
 use Rattle.rules.specs.Work.{Work, stop, outside, refuseAt, wordAt, loadWord}
 use Rattle.rules.specs.Scheduling.{notProcess, tlinkS, timeS}
 use Rattle.rules.specs.Timers.{insertFinalStep, insertWalk}
-use Rattle.rules.proofs.Tests.{yes-eq, no-eq, on-pick, on-eq}
-use Rattle.laws.specs.Ring.{end, round, nextPointer, isOutside, insertEnds, InsertRing}
-use Rattle.laws.proofs.Ring.{budget, budget-round, budget-end, no-end, refused-iff}
-use Rattle.laws.proofs.Calm.{Calm, calm-out, calm-none, calm-access, calm-insertFinalStep, inside-same, outside-out, out-stays, out-insertWalk}
+use Rattle.rules.proofs.Tests.{yes-eq, no-eq, on-pick, on-eq, cases-lt}
+use Rattle.laws.specs.Ring.{end, round, nextPointer, isOutside, insertEnds, insertRings, InsertRing}
+use Rattle.laws.proofs.Ring.{budget, budget-round, budget-end, no-end, refused-iff, again-iff}
+use Rattle.laws.proofs.Fine.{Fine, fine-access}
+use Rattle.laws.proofs.FineTimers.{fine-insertFinalStep, fine-insertWalk}
+use Rattle.laws.proofs.Calm.{Calm, calm-none, inside-same, lost, Tells, tells-calm, tells-iff}
 
 -- ---- insertion
 
-module _ (m : List ℕ) (time : ℕ) (w : Work) (none : w .answer ≡ 0) where
+module _ (m : List ℕ) (time : ℕ) (w : Work) (count : length (w .regs) ≡ registers) (none : w .answer ≡ 0) where
   -- a turn whose own pointer is inside memory
   insert-turn : (turns previous : ℕ) → index previous < length m
       → insertWalk m (suc turns) time previous w
@@ -37,21 +40,21 @@ module _ (m : List ℕ) (time : ℕ) (w : Work) (none : w .answer ≡ 0) where
   unfolding insertWalk
   insert-lost turns previous h =
       let p = wordAt m previous w in
-      let o₁ = outside-out m 2 previous w h none in
-      let o₂ = out-stays m 2 (atWord p timeS) (loadWord m previous w) o₁ in
-      on-eq Calm p notProcess (calm-insertFinalStep m previous p (calm-out o₁))
-      (on-pick Calm (later time (wordAt m (atWord p timeS) (loadWord m previous w)))
-      (out-insertWalk m turns time (atWord p tlinkS) (loadWord m (atWord p timeS) (loadWord m previous w)) o₂)
-      (calm-insertFinalStep m previous p (calm-out o₂)))
+      lost m 2 previous w count h none _
+      (λ P t f.
+      on-eq (Fine P) p notProcess (fine-insertFinalStep m previous p f)
+      (on-pick (Fine P) (later time (wordAt m (atWord p timeS) (loadWord m previous w)))
+      (fine-insertWalk m turns time (atWord p tlinkS) (t stop) (fine-access m 2 _ f))
+      (fine-insertFinalStep m previous p (fine-access m 2 _ f))))
 
   -- what it means that the walk does not end at p
   pub insert-goes : (p : ℕ) → insertEnds m w time p ≡ false
       → (p ≡ notProcess → ⊥) × (index (atWord p timeS) < length m) × (later time (wordAt m (atWord p timeS) w) ≡ true) × (index (atWord p tlinkS) < length m)
   unfolding insertEnds
-  insert-goes p e = go (eqb p notProcess) refl (isOutside m w (atWord p timeS)) refl (later time (wordAt m (atWord p timeS) w)) refl e
+  insert-goes p e = go (eqb p notProcess) refl (isOutside m (atWord p timeS)) refl (later time (wordAt m (atWord p timeS) w)) refl e
     where
-      go : (a : Bool) → eqb p notProcess ≡ a → (b : Bool) → isOutside m w (atWord p timeS) ≡ b → (c : Bool) → later time (wordAt m (atWord p timeS) w) ≡ c
-          → pick a true (pick b true (pick c (isOutside m w (atWord p tlinkS)) true)) ≡ false
+      go : (a : Bool) → eqb p notProcess ≡ a → (b : Bool) → isOutside m (atWord p timeS) ≡ b → (c : Bool) → later time (wordAt m (atWord p timeS) w) ≡ c
+          → pick a true (pick b true (pick c (isOutside m (atWord p tlinkS)) true)) ≡ false
           → (p ≡ notProcess → ⊥) × (index (atWord p timeS) < length m) × (later time (wordAt m (atWord p timeS) w) ≡ true) × (index (atWord p tlinkS) < length m)
       go true ea b eb c ec z = absurd (let q : _≡_ {A = ℕ} 0 1 = cc in omega arith)
       go false ea true eb c ec z = absurd (let q : _≡_ {A = ℕ} 0 1 = cc in omega arith)
@@ -64,35 +67,35 @@ module _ (m : List ℕ) (time : ℕ) (w : Work) (none : w .answer ≡ 0) where
   unfolding insertEnds
   insert-stays turns previous h e =
       rw (insert-turn (suc turns) previous h)
-      (go (eqb p notProcess) refl (isOutside m w (atWord p timeS)) refl (later time (wordAt m (atWord p timeS) w)) refl e)
+      (go (eqb p notProcess) refl (isOutside m (atWord p timeS)) refl (later time (wordAt m (atWord p timeS) w)) refl e)
     where
       p : ℕ
       p = wordAt m previous w
 
       calm : Calm w
-      calm = calm-none none
+      calm = calm-none count none
 
       on : Work
       on = loadWord m (atWord p timeS) w
 
       found : Calm (insertFinalStep m previous p on)
-      found = calm-insertFinalStep m previous p (calm-access m 2 (atWord p timeS) calm)
+      found = fine-insertFinalStep m previous p (fine-access m 2 (atWord p timeS) calm)
 
-      go : (a : Bool) → eqb p notProcess ≡ a → (b : Bool) → isOutside m w (atWord p timeS) ≡ b → (c : Bool) → later time (wordAt m (atWord p timeS) w) ≡ c
-          → pick a true (pick b true (pick c (isOutside m w (atWord p tlinkS)) true)) ≡ true
+      go : (a : Bool) → eqb p notProcess ≡ a → (b : Bool) → isOutside m (atWord p timeS) ≡ b → (c : Bool) → later time (wordAt m (atWord p timeS) w) ≡ c
+          → pick a true (pick b true (pick c (isOutside m (atWord p tlinkS)) true)) ≡ true
           → Calm
           (ifEq p notProcess (insertFinalStep m previous p w)
           (pick (later time (wordAt m (atWord p timeS) w)) (insertWalk m (suc turns) time (atWord p tlinkS) on) (insertFinalStep m previous p on)))
-      go true ea b eb c ec z = rw (yes-eq (eqb-true p notProcess ea)) (calm-insertFinalStep m previous p calm)
+      go true ea b eb c ec z = rw (yes-eq (eqb-true p notProcess ea)) (fine-insertFinalStep m previous p calm)
       go false ea true eb c ec z =
-          on-eq Calm p notProcess (calm-insertFinalStep m previous p calm)
+          on-eq Calm p notProcess (fine-insertFinalStep m previous p calm)
           (on-pick Calm (later time (wordAt m (atWord p timeS) w))
-          (out-insertWalk m (suc turns) time (atWord p tlinkS) on (outside-out m 2 (atWord p timeS) w (leb-true _ _ eb) none))
+          (lost m 2 (atWord p timeS) w count (leb-true _ _ eb) none _ (λ P t f. fine-insertWalk m (suc turns) time (atWord p tlinkS) (t stop) f))
           found)
-      go false ea false eb false ec z = rw ec (on-eq Calm p notProcess (calm-insertFinalStep m previous p calm) found)
+      go false ea false eb false ec z = rw ec (on-eq Calm p notProcess (fine-insertFinalStep m previous p calm) found)
       go false ea false eb true ec z =
           let same : on ≡ w = inside-same m 2 (atWord p timeS) w (leb-false _ _ eb) in
-          rw (ec, same) (on-eq Calm p notProcess (calm-insertFinalStep m previous p calm) (insert-lost turns (atWord p tlinkS) (leb-true _ _ z)))
+          rw (ec, same) (on-eq Calm p notProcess (fine-insertFinalStep m previous p calm) (insert-lost turns (atWord p tlinkS) (leb-true _ _ z)))
 
   -- one turn of a walk that goes on
   insert-on : (turns previous : ℕ) → index previous < length m → insertEnds m w time (wordAt m previous w) ≡ false
@@ -132,4 +135,16 @@ module _ (m : List ℕ) (time : ℕ) (w : Work) (none : w .answer ≡ 0) where
       rw two
       (refused-iff (λ p. index (atWord p tlinkS)) (λ i. getD (stores m (w .stored)) i 0) (insertEnds m w time) (length m) (λ p e. insert-goes p e .3) (suc (length m)) (omega arith) (wordAt m previous w)
       (λ e. insert-round (suc (suc (length m))) previous h e)
-      (λ q e. insert-end (suc (length m)) previous q h e .not-stop))
+      (λ q e. insert-end (suc (length m)) previous q h e .known))
+
+  -- and the test tells it
+  pub insert-rings : (p : ℕ) → (insertRings m w time p ≡ true) ↔ InsertRing m w time p
+  unfolding wordAt insertRings
+  insert-rings p = again-iff (λ p. index (atWord p tlinkS)) (λ i. getD (stores m (w .stored)) i 0) (insertEnds m w time) (length m) (λ p e. insert-goes p e .3) p
+
+  pub insert-tells : (previous : ℕ) → Tells (not (isOutside m previous) && insertRings m w time (wordAt m previous w)) (insertWalk m (length m + 2) time previous w)
+  insert-tells previous =
+      cases-lt (index previous) (length m)
+      (λ b. rw (lt-leb (length m) (index previous) b) (tells-iff _ (insertWalk m (length m + 2) time previous w) (insert-ring previous b) (insert-rings (wordAt m previous w))))
+      (λ b. let two : length m + 2 ≡ suc (suc (length m)) = omega arith in
+      rw (le-leb (length m) (index previous) b, two) (tells-calm (insert-lost (suc (length m)) previous b)))

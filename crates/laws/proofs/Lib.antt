@@ -8,6 +8,7 @@ pub mod FineOperations
 pub mod FineStep
 pub mod Stores
 pub mod Touched
+pub mod Single
 pub mod Calls
 pub mod Unique
 pub mod Pigeon
@@ -25,3 +26,5 @@ pub mod AlikeTimers
 pub mod AlikeChannels
 pub mod AlikeOperations
 pub mod AlikeStep
+pub mod Stops
+pub mod Start

@@ -11,7 +11,7 @@ use lib.Dec.{eqb}
 use lib.ListN.{length, length-map}
 use Rattle.rules.specs.Tests.{pick}
 use Rattle.laws.specs.Lists.{Off, NoDup, Below}
-use Rattle.laws.specs.Ring.{has, Way, end, round, Walks, again, stays, goes}
+use Rattle.laws.specs.Ring.{has, Way, end, round, Walks, again, stays, goes, comesAgain}
 use Rattle.laws.proofs.Pigeon.{off-has, pigeonhole}
 
 abbrev pub turn : Bool → ℕ → Way → Way
@@ -169,3 +169,31 @@ module _ (word load : ℕ → ℕ) (ends : ℕ → Bool) (size : ℕ) (within : 
       ring : (o : Way) → budget next ends turns p ≡ o → Refused → Walks next ends [] p round
       ring round e r = walks-to turns enough p round e
       ring (end q) e r = absurd (g q e r)
+
+  -- ---- the test of a ring: what it finds is one, and with turns for every word and one value more it finds each
+
+  again-walks : (n : ℕ) (l : List ℕ) (p : ℕ) → comesAgain next ends n l p ≡ true → Walks next ends l p round
+  unfolding comesAgain
+  again-walks zero l p e = absurd (let z : _≡_ {A = ℕ} 0 1 = cc in omega arith)
+  again-walks (suc n) l p e = go (has p l) refl (ends p) refl e (again-walks n (p ∷ l) (next p))
+    where
+      go : (a : Bool) → has p l ≡ a → (b : Bool) → ends p ≡ b → pick a true (pick b false (comesAgain next ends n (p ∷ l) (next p))) ≡ true
+          → (comesAgain next ends n (p ∷ l) (next p) ≡ true → Walks next ends (p ∷ l) (next p) round)
+          → Walks next ends l p round
+      go true ha b hb z f = again ha
+      go false ha true hb z f = absurd (let y : _≡_ {A = ℕ} 0 1 = cc in omega arith)
+      go false ha false hb z f = goes ha hb (f z)
+
+  -- no walk has passed that many
+  too-many : (l : List ℕ) (p : ℕ) → Chain l p → NoDup l → suc size < length l → ⊥
+  too-many [] p c d h = omega arith
+  too-many (q ∷ qs) p c d h = omega (arith, few qs q (c .2) d)
+
+  walks-again : (n : ℕ) (l : List ℕ) (p : ℕ) → Chain l p → NoDup l → suc size < n + length l → Walks next ends l p round → comesAgain next ends n l p ≡ true
+  unfolding comesAgain
+  walks-again zero l p c d h v = absurd (too-many l p c d (omega arith))
+  walks-again (suc n) l p c d h (again a) = rw a
+  walks-again (suc n) l p c d h (goes a b v) = rw (a, b) (walks-again n (p ∷ l) (next p) (refl, b, c) (off-has p l a, d) (omega arith) v)
+
+  pub again-iff : (p : ℕ) → (comesAgain next ends (size + 2) [] p ≡ true) ↔ Walks next ends [] p round
+  again-iff p = (again-walks (size + 2) [] p, walks-again (size + 2) [] p tt tt (omega arith))

@@ -8,19 +8,22 @@ use native.Mathlib.Omega.{arith}
 use lib.Bits.{and-mask}
 use lib.ListN.{length}
 use Rattle.rules.specs.Words.{index}
-use Rattle.rules.specs.Registers.{wdescReg, areg, flagsReg, tEnabled}
-use Rattle.rules.specs.Work.{Work, reg, put, lower, wptr, priority, stop, wordAt, wIndexWord}
-use Rattle.rules.specs.Scheduling.{waiting, stateS, timeS}
+use Rattle.rules.specs.Registers.{registers, wdescReg, areg}
+use Rattle.rules.specs.Work.{Work, reg, put, lower, priority, stop, wordAt}
 use Rattle.rules.specs.Timers.{tptrLoc, insertFirstStep, deleteFirstStep}
 use Rattle.laws.specs.Ring.{InsertRing, DeleteRing}
-use Rattle.laws.proofs.InsertRing.{insert-ring}
-use Rattle.laws.proofs.DeleteRing.{delete-ring}
+use Rattle.laws.specs.Stops.{going, insertStarted, deleteStarted, insertStops, deleteStops}
+use Rattle.laws.proofs.Fine.{fine-lower, fine-wIndexWord}
+use Rattle.laws.proofs.FineTimers.{fine-insertWalk}
+use Rattle.laws.proofs.Calm.{Calm, any-fine, Tells, regroup, tells-going}
+use Rattle.laws.proofs.InsertRing.{insert-ring, insert-tells}
+use Rattle.laws.proofs.DeleteRing.{delete-ring, delete-tells}
 
 -- TPtrLoc is words 9 and 10
 queue-word : (queue : ℕ) → queue < 2 → index (tptrLoc queue) < 64
 queue-word queue h = omega arith
 
-queue-inside : (m : List ℕ) (w : Work) → 64 ≤ length m → index (tptrLoc (priority w)) < length m
+pub queue-inside : (m : List ℕ) (w : Work) → 64 ≤ length m → index (tptrLoc (priority w)) < length m
 queue-inside m w h =
     let low : priority w < 2 = omega (arith, and-mask (reg wdescReg w) 1) in
     omega (arith, queue-word (priority w) low)
@@ -29,18 +32,35 @@ lower-answer : (k mask : ℕ) (w : Work) → lower k mask w .answer ≡ w .answe
 unfolding lower put
 lower-answer k mask w = refl
 
--- a time is stored in the workspace, then the walk begins at the queue's first word
-pub insert-step-ring : (m : List ℕ) (w : Work) → 64 ≤ length m
-    → wIndexWord m (wptr w) timeS (reg areg w) (wIndexWord m (wptr w) stateS waiting w) .answer ≡ 0
-    → (insertFirstStep m w .answer ≡ stop)
-    ↔ InsertRing m (wIndexWord m (wptr w) timeS (reg areg w) (wIndexWord m (wptr w) stateS waiting w)) (reg areg w)
-    (wordAt m (tptrLoc (priority w)) (wIndexWord m (wptr w) timeS (reg areg w) (wIndexWord m (wptr w) stateS waiting w)))
-unfolding insertFirstStep
-insert-step-ring m w h e = insert-ring m (reg areg w) _ e (tptrLoc (priority w)) (queue-inside m w h)
+module _ (m : List ℕ) (w : Work) (count : length (w .regs) ≡ registers) where
+  started-count : length (insertStarted m w .regs) ≡ registers
+  started-count = fine-wIndexWord m _ _ _ (fine-wIndexWord m _ _ _ (any-fine w count)) .count
 
-pub delete-step-ring : (m : List ℕ) (w : Work) → 64 ≤ length m → w .answer ≡ 0
-    → (deleteFirstStep m w .answer ≡ stop)
-    ↔ DeleteRing m (lower flagsReg (tEnabled (priority w)) w) (wordAt m (tptrLoc (priority w)) (lower flagsReg (tEnabled (priority w)) w))
-unfolding deleteFirstStep
-delete-step-ring m w h e =
-    delete-ring m (lower flagsReg (tEnabled (priority w)) w) (lower-answer flagsReg (tEnabled (priority w)) w ∙ e) (tptrLoc (priority w)) (queue-inside m w h)
+  off-count : length (deleteStarted w .regs) ≡ registers
+  off-count = fine-lower _ _ (any-fine w count) .count
+
+  off-answer : w .answer ≡ 0 → deleteStarted w .answer ≡ 0
+  off-answer e = lower-answer _ _ w ∙ e
+
+  -- a time is stored in the workspace, then the walk begins at the queue's first word
+  pub insert-step-ring : 64 ≤ length m → insertStarted m w .answer ≡ 0
+      → (insertFirstStep m w .answer ≡ stop) ↔ InsertRing m (insertStarted m w) (reg areg w) (wordAt m (tptrLoc (priority w)) (insertStarted m w))
+  unfolding insertFirstStep
+  insert-step-ring h e = insert-ring m (reg areg w) _ started-count e (tptrLoc (priority w)) (queue-inside m w h)
+
+  pub delete-step-ring : 64 ≤ length m → w .answer ≡ 0
+      → (deleteFirstStep m w .answer ≡ stop) ↔ DeleteRing m (deleteStarted w) (wordAt m (tptrLoc (priority w)) (deleteStarted w))
+  unfolding deleteFirstStep
+  delete-step-ring h e = delete-ring m _ off-count (off-answer e) (tptrLoc (priority w)) (queue-inside m w h)
+
+  -- and the tests of the places tell it
+  pub delete-stops : w .answer ≡ 0 → Tells (deleteStops m w) (deleteFirstStep m w)
+  unfolding deleteFirstStep deleteStops
+  delete-stops e = delete-tells m _ off-count (off-answer e) (tptrLoc (priority w))
+
+pub insert-stops : (m : List ℕ) {w : Work} → Calm w → Tells (insertStops m w) (insertFirstStep m w)
+unfolding insertFirstStep insertStops
+insert-stops m {w} c =
+    regroup (going (insertStarted m w)) _ _ (insertFirstStep m w)
+    (tells-going (insertStarted m w) (insertFirstStep m w) _ (fine-wIndexWord m _ _ _ (fine-wIndexWord m _ _ _ c)) (λ P t f. fine-insertWalk m _ _ _ (t stop) f)
+    (λ e. insert-tells m (reg areg w) _ (started-count m w (c .count)) e (tptrLoc (priority w))))

@@ -8,7 +8,7 @@ use lib.Dec.{ltb, leb, eqb}
 use lib.Bits.{bitAnd}
 use lib.ListN.{length, getD}
 use Rattle.rules.specs.Tests.{pick, ifLt, ifEq, ifSet}
-use borrow.Author.Tests.{le-leb, lt-leb, eq-eqb, ne-eqb}
+use borrow.Author.Tests.{le-leb, lt-leb, le-ltb, lt-ltb, eq-eqb, ne-eqb}
 use Rattle.rules.specs.Words.{index}
 use Rattle.rules.specs.Registers.{registers, pointerReg, countReg, channelReg, activeBit, heldBit, eventChannel, flagsReg, statusReg, oreg, idleFlag, haltedFlag, linkChans}
 use Rattle.rules.specs.Memory.{Store, touched, stores}
@@ -20,8 +20,9 @@ use Rattle.rules.specs.Step as steps
 use Rattle.rules.specs.Calls as rules
 use Rattle.rules.specs.declared.Machine.{Machine}
 use Rattle.rules.proofs.Tests.{yes-lt, no-lt, yes-eq, no-eq, yes, no, by-bool, cases-eq, cases-lt, on-eq, on-lt, on-le, on-pick}
-use Rattle.refusals.specs.Conditions.{firstOf, frame, lastTooLong, pairOutside, nothingToUndo, isHalted, asked, isIdle, isUnlisted, isMoving, isHeld, takeNotReady, giveNotReady, pointerOutside, full, tickNumbers, takeNumbers, giveNumbers, eventNumbers, undoNumbers, clearNumbers, freshNumbers, stepOutside, stepStops, stepNumbers}
+use Rattle.refusals.specs.Conditions.{firstOf, frame, lastTooLong, pairOutside, nothingToUndo, isHalted, asked, isIdle, isUnlisted, isMoving, isHeld, takeNotReady, giveNotReady, pointerOutside, full, givePairs, stepPairs, tickNumbers, takeNumbers, giveNumbers, eventNumbers, undoNumbers, clearNumbers, freshNumbers, stepOutside, stops, stepNumbers}
 use Rattle.refusals.proofs.Own.{own-first}
+use Rattle.refusals.proofs.Stored.{no-pairs, tick-stored, take-stored, event-stored, give-pairs}
 
 -- an answer picked is the picked answer
 answer-of : (t : Bool) (o p : rules.Outcome) → pick t o p .answer ≡ pick t (o .answer) (p .answer)
@@ -50,13 +51,24 @@ then-first (e ∷ es) fs h = go (e .1) (h .0) (then-first es fs (h .1))
 
 -- a call that is worked out: its own conditions, then the record that does not fit
 module _ (m : Machine) (mem j : List ℕ) (byte : ℕ) (w : Work) where
-  settled-first : rules.settled m mem j byte w .answer ≡ ifEq (w .answer) 0 (firstOf ((12, full m mem j w) ∷ [])) (w .answer)
-  unfolding rules.settled rules.recorded firstOf ifLt ifEq
+  pairs : ℕ
+  pairs = length (touched (length mem) (w .stored))
+
+  settled-first : rules.settled m mem j byte w .answer ≡ ifEq (w .answer) 0 (firstOf ((12, full pairs m j) ∷ [])) (w .answer)
+  unfolding rules.settled rules.recorded firstOf ifLt ifEq pairs
   settled-first = simp answer-of
 
-  settled-answer : (own : List (ℕ × Bool)) → Numbers own → w .answer ≡ firstOf own
-      → rules.settled m mem j byte w .answer ≡ firstOf (own ++ ((12, full m mem j w) ∷ []))
-  settled-answer own h e = settled-first ∙ rw e (then-first own ((12, full m mem j w) ∷ []) h)
+  -- of a record of n pairs, where nothing else refuses the call
+  settled-answer : (own : List (ℕ × Bool)) (n : ℕ) → Numbers own → w .answer ≡ firstOf own → (w .answer ≡ 0 → length (touched (length mem) (w .stored)) ≡ n)
+      → rules.settled m mem j byte w .answer ≡ firstOf (own ++ ((12, full n m j) ∷ []))
+  unfolding pairs
+  settled-answer own n h e same = settled-first ∙ told ∙ rw e (then-first own ((12, full n m j) ∷ []) h)
+    where
+      told : ifEq (w .answer) 0 (firstOf ((12, full pairs m j) ∷ [])) (w .answer) ≡ ifEq (w .answer) 0 (firstOf ((12, full n m j) ∷ [])) (w .answer)
+      told =
+          cases-eq (w .answer) 0
+          (λ z. rw (same z))
+          (λ z. rw (no-eq z, no-eq z))
 
 -- ---- the five calls that work on registers and memory
 
@@ -72,8 +84,8 @@ module _ (m : Machine) (mem j : List ℕ) where
   pub tick-exactly : rules.tick m mem j .answer ≡ firstOf (tickNumbers m mem j)
   unfolding rules.tick firstOf
   tick-exactly =
-      checked-answer false m mem j (rules.settled m mem j 0 (links.tick (begin (m .regs)))) ((12, full m mem j (links.tick (begin (m .regs)))) ∷ [])
-      (settled-answer m mem j 0 (links.tick (begin (m .regs))) [] tt (tick-free (m .regs)))
+      checked-answer false m mem j (rules.settled m mem j 0 (links.tick (begin (m .regs)))) ((12, full 0 m j) ∷ [])
+      (settled-answer m mem j 0 (links.tick (begin (m .regs))) [] 0 tt (tick-free (m .regs)) (λ z. no-pairs _ _ (tick-stored (m .regs))))
 
 -- what a link's advance keeps
 same-answer : (a : ℕ) → Work → Type 0
@@ -145,38 +157,60 @@ event-own r =
         (λ h. rw (yes-eq h, yes-eq h) (on-eq Free _ _ refl refl))
         (λ h. rw (no-eq h, no-eq h) (refuse-answer 8 r))
 
+-- the last record counts only where there is one, so that 4 is one row
+undo-rows : (bad long stray : Bool) (depth : ℕ)
+    → _≡_ {A = ℕ} (pick bad 4 (pick (eqb depth 0) 5 (pick long 4 (pick stray 4 0)))) (pick (bad || (ltb 0 depth && (long || stray))) 4 (pick (eqb depth 0) 5 0))
+undo-rows bad long stray depth =
+    cases-eq depth 0
+    (λ e. rw (eq-eqb depth 0 e, le-ltb 0 depth (omega (arith, e))) (none bad))
+    (λ e. rw (ne-eqb depth 0 e, lt-ltb 0 depth (omega (arith, e))) (some bad long))
+  where
+    none : (b : Bool) → _≡_ {A = ℕ} (pick b 4 5) (pick (b || false) 4 5)
+    none true = refl
+    none false = refl
+
+    some : (b l : Bool) → _≡_ {A = ℕ} (pick b 4 (pick l 4 (pick stray 4 0))) (pick (b || (l || stray)) 4 0)
+    some true l = refl
+    some false true = refl
+    some false false = refl
+
+-- where a give is not refused, the byte of a moving link is inside memory
+give-inside : (c : ℕ) (r mem : List ℕ) → firstOf ((8, giveNotReady c r) ∷ (10, pointerOutside c r mem) ∷ []) ≡ 0 → isMoving c r ≡ true → index (getD r (pointerReg c) 0) < length mem
+unfolding firstOf
+give-inside c r mem z moving =
+    cases-lt (index (getD r (pointerReg c) 0)) (length mem) (λ b. b)
+    (λ b. absurd (omega (arith, rw (moving, le-leb (length mem) (index (getD r (pointerReg c) 0)) b) at z)))
+
 module _ (m : Machine) (mem j : List ℕ) where
   pub take-exactly : (c : ℕ) → rules.take c m mem j .answer ≡ firstOf (takeNumbers c m mem j)
   unfolding rules.take
   take-exactly c =
       checked-answer (rules.notOutput c) m mem j _ _
-      (settled-answer m mem j _ (links.take mem c (begin (m .regs))) ((8, takeNotReady c (m .regs)) ∷ (10, pointerOutside c (m .regs) mem) ∷ [])
-      (λ t. omega arith, (λ t. omega arith, tt)) (take-own c (m .regs) mem))
+      (settled-answer m mem j _ (links.take mem c (begin (m .regs))) ((8, takeNotReady c (m .regs)) ∷ (10, pointerOutside c (m .regs) mem) ∷ []) 0
+      (λ t. omega arith, (λ t. omega arith, tt)) (take-own c (m .regs) mem) (λ z. no-pairs _ _ (take-stored mem c (m .regs))))
 
   pub give-exactly : (c byte : ℕ) → rules.give c byte m mem j .answer ≡ firstOf (giveNumbers c byte m mem j)
   unfolding rules.give
   give-exactly c byte =
       checked-answer (rules.notInput c) m mem j _ _
-      (settled-answer m mem j _ (links.give mem c byte (begin (m .regs))) ((8, giveNotReady c (m .regs)) ∷ (10, pointerOutside c (m .regs) mem) ∷ [])
-      (λ t. omega arith, (λ t. omega arith, tt)) (give-own c byte (m .regs) mem))
+      (settled-answer m mem j _ (links.give mem c byte (begin (m .regs))) ((8, giveNotReady c (m .regs)) ∷ (10, pointerOutside c (m .regs) mem) ∷ []) (givePairs c (m .regs))
+      (λ t. omega arith, (λ t. omega arith, tt)) (give-own c byte (m .regs) mem)
+      (λ z. give-pairs mem c byte (m .regs) (give-inside c (m .regs) mem (sym (give-own c byte (m .regs) mem) ∙ z))))
 
   pub event-exactly : rules.event m mem j .answer ≡ firstOf (eventNumbers m mem j)
   unfolding rules.event firstOf
   event-exactly =
       checked-answer false m mem j (rules.settled m mem j 0 (links.event (begin (m .regs))))
-      ((8, giveNotReady eventChannel (m .regs)) ∷ (12, full m mem j (links.event (begin (m .regs)))) ∷ [])
-      (settled-answer m mem j 0 (links.event (begin (m .regs))) ((8, giveNotReady eventChannel (m .regs)) ∷ []) (λ t. omega arith, tt) (event-own (m .regs)))
+      ((8, giveNotReady eventChannel (m .regs)) ∷ (12, full 0 m j) ∷ [])
+      (settled-answer m mem j 0 (links.event (begin (m .regs))) ((8, giveNotReady eventChannel (m .regs)) ∷ []) 0 (λ t. omega arith, tt) (event-own (m .regs)) (λ z. no-pairs _ _ (event-stored (m .regs))))
 
   -- ---- undo, clear, fresh
 
-  undo-own : ifEq (m .depth) 0 (rules.refused 5 m mem j) (rules.undoLast m mem j) .answer
-      ≡ firstOf ((5, nothingToUndo m) ∷ (4, lastTooLong m j) ∷ (4, pairOutside m mem j) ∷ [])
-  unfolding rules.undoLast rules.undone ifEq ifLt firstOf
-  undo-own = simp answer-of
-
   pub undo-exactly : rules.undo m mem j .answer ≡ firstOf (undoNumbers m mem j)
-  unfolding rules.undo firstOf
-  undo-exactly = checked-answer false m mem j _ ((5, nothingToUndo m) ∷ (4, lastTooLong m j) ∷ (4, pairOutside m mem j) ∷ []) undo-own
+  unfolding rules.undo rules.checked rules.undoLast rules.undone ifEq ifLt firstOf
+  undo-exactly =
+      simp answer-of
+      (ap (λ (n : ℕ). pick (rules.sizeBad mem j) 1 n) (undo-rows (frame m j) (lastTooLong m j) (pairOutside m mem j) (m .depth)))
 
   pub clear-exactly : rules.clear m mem j .answer ≡ firstOf (clearNumbers m mem j)
   unfolding rules.clear firstOf
@@ -225,7 +259,7 @@ module _ (r mem : List ℕ) where
       (λ o. rw (no-eq o) (idle-answer i)))
 
   step-own : length r ≡ registers → steps.step mem (begin r) .answer
-      ≡ firstOf ((6, isHalted r) ∷ (7, isIdle r) ∷ (9, isUnlisted r mem) ∷ (10, stepOutside r mem) ∷ (11, stepStops r mem) ∷ [])
+      ≡ firstOf ((6, isHalted r) ∷ (7, isIdle r) ∷ (9, isUnlisted r mem) ∷ (10, stepOutside r mem) ∷ (11, stops r mem) ∷ [])
   unfolding steps.step firstOf
   step-own k =
       cases-eq (bitAnd (getD r flagsReg 0) haltedFlag) 0
@@ -237,9 +271,9 @@ module _ (r mem : List ℕ) where
 pub step-exactly : (m : Machine) (mem j : List ℕ) → length (m .regs) ≡ registers → rules.step m mem j .answer ≡ firstOf (stepNumbers m mem j)
 unfolding rules.step firstOf
 step-exactly m mem j h =
-    checked-answer false m mem j (rules.settled m mem j 0 (steps.step mem (begin (m .regs)))) (own ++ ((12, full m mem j (steps.step mem (begin (m .regs)))) ∷ []))
-    (settled-answer m mem j 0 (steps.step mem (begin (m .regs))) own
-    (λ t. omega arith, (λ t. omega arith, (λ t. omega arith, (λ t. omega arith, (λ t. omega arith, tt))))) (step-own (m .regs) mem h))
+    checked-answer false m mem j (rules.settled m mem j 0 (steps.step mem (begin (m .regs)))) (own ++ ((12, full (stepPairs (m .regs) mem) m j) ∷ []))
+    (settled-answer m mem j 0 (steps.step mem (begin (m .regs))) own (stepPairs (m .regs) mem)
+    (λ t. omega arith, (λ t. omega arith, (λ t. omega arith, (λ t. omega arith, (λ t. omega arith, tt))))) (step-own (m .regs) mem h) (λ z. refl))
   where
     own : List (ℕ × Bool)
     own =
@@ -247,5 +281,5 @@ step-exactly m mem j h =
         ∷ (7, isIdle (m .regs))
         ∷ (9, isUnlisted (m .regs) mem)
         ∷ (10, stepOutside (m .regs) mem)
-        ∷ (11, stepStops (m .regs) mem)
+        ∷ (11, stops (m .regs) mem)
         ∷ []

@@ -1,4 +1,5 @@
 pub mod Built
 pub mod Own
+pub mod Stored
 pub mod Exactly
 pub mod Outside

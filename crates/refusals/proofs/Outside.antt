@@ -27,6 +27,7 @@ use Rattle.laws.specs.Alike as alike
 use Rattle.laws.proofs.Fine.{Fine, Turns}
 use Rattle.laws.proofs.FineStep.{fine-fetched, fine-decode, fine-haltOnError}
 use Rattle.laws.proofs.Alike.{Is, never-turns}
+use Rattle.laws.proofs.Calm.{never}
 use Rattle.laws.proofs.Appended.{stores-appended, touched-appended, record-appended}
 use Rattle.laws.proofs.AlikeStep.{step-alike}
 use Rattle.refusals.specs.Conditions.{frame, isHalted, isIdle, fetches}
@@ -34,9 +35,6 @@ use Rattle.refusals.specs.Outside.{appended}
 use Rattle.refusals.proofs.Own.{by-choice}
 
 -- ---- a memory that is not refused with 1 is small, and so is the longer one
-
-never : {P : Type 0} → _≡_ {A = Bool} false true → P
-never e = absurd (let z : _≡_ {A = ℕ} 0 1 = cc in omega arith)
 
 memory-small : (mem j : List ℕ) → sizeBad mem j ≡ false → length mem < 2 ^ 30
 unfolding sizeBad memoryBad
@@ -166,7 +164,7 @@ module _ (r mem : List ℕ) (h : length r ≡ registers) (o : length mem ≤ ind
   step-lost k i f =
       cases-eq (bitAnd (getD r flagsReg 0) haltedFlag) 0
       (λ e. rw (yes-eq e)
-      (fine-haltOnError _ (by-choice r mem (FetchRefused r) i (λ z. never (sym z ∙ f)) (λ n z. never (sym z ∙ f)) (λ z. fetch-lost))))
+      (fine-haltOnError _ (by-choice r mem (FetchRefused r) i (λ z a. never (sym z ∙ f)) (λ z a b. never (sym z ∙ f)) (λ z a b. never (sym z ∙ f)) (λ z. fetch-lost))))
       (λ e. never (sym k ∙ rw (no-eq e)))
 
 pub step-fetch-outside : (m : Machine) (mem j : List ℕ) → length (m .regs) ≡ registers

@@ -1,5 +1,5 @@
--- The answer of a step that is neither halted nor idle is 0, 9, 10 or 11; and it is 9 exactly where the byte was fetched and makes an operation outside
--- the built list. Assumes nothing.
+-- The answer of a step that is neither halted nor idle is 0, 9, 10 or 11; it is 9 exactly where the byte was fetched and makes an operation outside
+-- the built list, and 11 exactly where the step Stops at one of the places of DECISIONS 26. Assumes nothing.
 use mathlib.Core.Path.{_≡_, refl, sym, ap, subst, _∙_}
 use mathlib.Core.Logic.{_⊎_, inl, inr, ⊎-elim}
 use mathlib.Core.Bool.{Bool, true, false, _&&_, _||_, not}
@@ -11,39 +11,40 @@ use lib.Dec.{ltb, eqb}
 use lib.Bits.{bitAnd}
 use lib.ListN.{length, getD, set, length-set}
 use lib.Seq.{getD-set-same}
-use Rattle.rules.specs.Tests.{pick, ifLt, ifEq}
-use Rattle.rules.specs.Words.{index, atByte, withNibble}
+use Rattle.rules.specs.Tests.{pick, ifLt, ifEq, look}
+use Rattle.rules.specs.Words.{index, atByte}
 use Rattle.rules.specs.Registers.{registers, iptrReg, oreg, flagsReg, idleFlag, linkChans}
-use Rattle.rules.specs.Work.{Work, begin, reg, put, putCore, refuseAt, refuse, byteAt, access, kindFetch, unlisted, outside, stop}
+use Rattle.rules.specs.Work.{Work, begin, reg, put, refuseAt, refuse, byteAt, access, kindFetch, unlisted, outside, stop}
 use Rattle.rules.specs.Scheduling.{actOnSNP}
 use Rattle.rules.specs.Timers.{timerReady, handleTimerRequest}
 use Rattle.rules.specs.Channels.{requested, handleChannelRequest}
 use Rattle.rules.specs.Operations.{operations, operate, function}
 use Rattle.rules.specs.Step.{fetched, execute, decode, instruction, instructionUnlessIdle, timersFirst, channelsFirst, choose}
-use Rattle.rules.proofs.Tests.{yes-eq, no-eq, by-bool, cases-eq, cases-lt}
+use Rattle.rules.proofs.Tests.{yes, yes-eq, no-eq, by-bool, cases-eq, cases-lt}
 use Rattle.laws.specs.Lists.{listed}
+use Rattle.laws.specs.Stops.{stopPlaces, nowhere, requestStops, timerStops}
 use Rattle.laws.proofs.Fine.{Fine, Turns, fine-put, fine-putCore, fine-access}
 use Rattle.laws.proofs.FineScheduling.{fine-actOnSNP}
 use Rattle.laws.proofs.FineTimers.{fine-handleTimerRequest}
 use Rattle.laws.proofs.FineChannels.{fine-handleChannelRequest}
 use Rattle.laws.proofs.FineOperations.{fine-operate, fine-direct, operate-unlisted, function-opr}
 use Rattle.laws.proofs.FineStep.{fine-fetched, fine-decode, fine-instruction}
-use Rattle.laws.proofs.Calm.{inside-same, outside-out}
-use Rattle.refusals.specs.Conditions.{firstOf, asked, fetches, isIdle, nextByte, isUnlisted}
+use Rattle.laws.proofs.Calm.{never, Answer, Is, Not, not-turns, not-fine, any-fine, refused-stays, same-number, same-stop, Tells, inside-same, outside-out}
+use Rattle.laws.proofs.Stops.{Begun, request-stops, timer-stops, operate-stops}
+use Rattle.laws.proofs.Start.{place-fetched}
+use Rattle.refusals.specs.Conditions.{firstOf, asked, fetches, isIdle, isBuilt, nextByte, operates, nextCode, isUnlisted, operationStops, serviceStops, stops}
 use Rattle.refusals.proofs.Built.{built-listed}
-
-never : {A : Type 0} → _≡_ {A = Bool} false true → A
-never e = absurd (let z : _≡_ {A = ℕ} 0 1 = cc in omega arith)
 
 module _ (r mem : List ℕ) where
   -- what a step does where it is not idle: a request or a timer is served, or an instruction is fetched
   pub by-choice : (Q : Work → Type 0) → isIdle r ≡ false
-      → (fetches r ≡ false → Q (actOnSNP mem (handleChannelRequest mem (requested (begin r)) (begin r))))
-      → ((n : ℕ) → fetches r ≡ false → Q (actOnSNP mem (handleTimerRequest mem n (begin r))))
+      → (fetches r ≡ false → ltb (requested (begin r)) linkChans ≡ true → Q (actOnSNP mem (handleChannelRequest mem (requested (begin r)) (begin r))))
+      → (fetches r ≡ false → ltb (requested (begin r)) linkChans ≡ false → timerReady 0 (begin r) ≡ true → Q (actOnSNP mem (handleTimerRequest mem 0 (begin r))))
+      → (fetches r ≡ false → ltb (requested (begin r)) linkChans ≡ false → timerReady 0 (begin r) ≡ false → Q (actOnSNP mem (handleTimerRequest mem 1 (begin r))))
       → (fetches r ≡ true → Q (instruction mem (begin r)))
       → Q (choose mem (begin r))
   unfolding choose channelsFirst timersFirst instructionUnlessIdle isIdle ifLt
-  by-choice Q i channel timer next =
+  by-choice Q i channel timer₀ timer₁ next =
       cases-eq (getD r oreg 0) 0
       (λ o. rw (yes-eq o) (go o (ltb (requested (begin r)) linkChans) (timerReady 0 (begin r)) (timerReady 1 (begin r)) refl refl refl))
       (λ o. rw (no-eq o) (awake (rw (no-eq o))))
@@ -60,167 +61,161 @@ module _ (r mem : List ℕ) where
       go : getD r oreg 0 ≡ 0 → (a b c : Bool) → ltb (requested (begin r)) linkChans ≡ a → timerReady 0 (begin r) ≡ b → timerReady 1 (begin r) ≡ c
           → Q (pick a (actOnSNP mem (handleChannelRequest mem (requested (begin r)) (begin r)))
           (pick b (actOnSNP mem (handleTimerRequest mem 0 (begin r))) (pick c (actOnSNP mem (handleTimerRequest mem 1 (begin r))) last)))
-      go o true b c p q s = channel (rw (yes-eq o, p))
-      go o false true c p q s = timer 0 (rw (yes-eq o, p, q))
-      go o false false true p q s = timer 1 (rw (yes-eq o, p, q, s))
+      go o true b c p q s = channel (rw (yes-eq o, p)) p
+      go o false true c p q s = timer₀ (rw (yes-eq o, p, q)) p q
+      go o false false true p q s = timer₁ (rw (yes-eq o, p, q, s)) p q
       go o false false false p q s = awake (rw (yes-eq o, p, q, s))
 
--- ---- properties of the answer
+-- ---- the numbers
 
 abbrev Mine : ℕ → Type 0
 Mine n = (n ≡ 0) ⊎ ((9 ≤ n) × (n ≤ 11))
-
--- of an answer, whatever the kind and address of its access
-abbrev Answer : (ℕ → Type 0) → ℕ → ℕ → ℕ → Type 0
-Answer Q n kind address = Q n
-
-abbrev NotNine : ℕ → Type 0
-NotNine n = n ≡ 9 → ⊥
-
--- a refusal that came first stays
-abbrev Is : ℕ → ℕ → Type 0
-Is n k = k ≡ n
-
-not-nine : (n : ℕ) → (n ≡ 9 → ⊥) → Turns (Answer NotNine) n
-not-nine n h k a z kind address = h
-
-is-fine : (n : ℕ) (w : Work) → length (w .regs) ≡ registers → (0 ≡ n → ⊥) → w .answer ≡ n → Fine (Answer (Is n)) w
-is-fine n w h z e = record { count = h; known = e; ten = λ k a q kind address. absurd (z q) }
-
-not-nine-fine : (w : Work) → length (w .regs) ≡ registers → w .answer ≡ 0 → Fine (Answer NotNine) w
-not-nine-fine w h e =
-    record { count = h; known = λ q. omega (arith, e, q); ten = not-nine 10 (λ q. omega (arith, q)) }
-
--- of the work w: its answer is 9 exactly where the operation is unlisted
-module _ (r mem : List ℕ) where
-  Told : Work → Type 0
-  Told w = isUnlisted r mem ≡ eqb (w .answer) 9
-
-  told-not : (w : Work) → isUnlisted r mem ≡ false → NotNine (w .answer) → Told w
-  unfolding Told
-  told-not w u n = u ∙ sym (ne-eqb (w .answer) 9 n)
-
-  unfetched : fetches r ≡ false → isUnlisted r mem ≡ false
-  unfolding isUnlisted
-  unfetched f = rw f
 
 module _ (r mem : List ℕ) (h : length r ≡ registers) where
   pub own-known : isIdle r ≡ false → Mine (choose mem (begin r) .answer)
   own-known i =
       by-choice r mem (λ w. Mine (w .answer)) i
-      (λ f. fine-actOnSNP mem (fine-handleChannelRequest mem _ stops fine) .known)
-      (λ n f. fine-actOnSNP mem (fine-handleTimerRequest mem n stops fine) .known)
-      (λ f. fine-instruction mem stops (turns 9 (omega arith) (omega arith)) fine .known)
+      (λ f a. fine-actOnSNP mem (fine-handleChannelRequest mem _ stopped fine) .known)
+      (λ f a b. fine-actOnSNP mem (fine-handleTimerRequest mem 0 stopped fine) .known)
+      (λ f a b. fine-actOnSNP mem (fine-handleTimerRequest mem 1 stopped fine) .known)
+      (λ f. fine-instruction mem stopped (turns 9 (omega arith) (omega arith)) fine .known)
     where
       turns : (n : ℕ) → 9 ≤ n → n ≤ 11 → Turns (Answer Mine) n
       turns n small large k a z kind address = inr (small, large)
 
-      stops : Turns (Answer Mine) 11
-      stops = turns 11 (omega arith) (omega arith)
+      stopped : Turns (Answer Mine) 11
+      stopped = turns 11 (omega arith) (omega arith)
 
       fine : Fine (Answer Mine) (begin r)
       fine = record { count = h; known = inl refl; ten = turns 10 (omega arith) (omega arith) }
 
-  -- ---- an instruction is fetched inside memory
+  -- ---- the fetch
 
-  byte : ℕ
-  byte = nextByte r mem
+  -- outside memory, the answer is 10
+  pub fetch-outside : length mem ≤ index (getD r iptrReg 0) → instruction mem (begin r) .answer ≡ outside
+  unfolding instruction
+  fetch-outside b =
+      refused-stays outside (access mem kindFetch (getD r iptrReg 0) (begin r)) _ (fine-access mem kindFetch (getD r iptrReg 0) (any-fine (begin r) h) .count) (λ z. omega (arith, z)) (outside-out mem kindFetch (getD r iptrReg 0) (begin r) b refl .is)
+      (λ P t f. fine-decode mem _ (t stop) (t unlisted) (fine-fetched _ f))
 
-  after-fetch : Work
-  after-fetch = fetched byte (begin r)
+  abbrev afterFetch : Work
+  afterFetch = fetched (nextByte r mem) (begin r)
 
-  fetch-count : length (after-fetch .regs) ≡ registers
-  unfolding after-fetch fetched put
-  fetch-count = simp length-set h
+  fetch-count : length (afterFetch .regs) ≡ registers
+  fetch-count = fine-fetched _ (any-fine (begin r) h) .count
 
-  fetch-answer : after-fetch .answer ≡ 0
-  unfolding after-fetch fetched put
+  fetch-answer : afterFetch .answer ≡ 0
+  unfolding fetched put
   fetch-answer = refl
 
-  operand : reg oreg after-fetch ≡ withNibble byte (getD r oreg 0)
-  unfolding after-fetch fetched put
+  operand : reg oreg (afterFetch) ≡ nextCode r mem
+  unfolding fetched put
   operand =
-      getD-set-same (set r iptrReg (atByte (getD r iptrReg 0) 1)) oreg (withNibble byte (getD r oreg 0)) 0
+      getD-set-same (set r iptrReg (atByte (getD r iptrReg 0) 1)) oreg (nextCode r mem) 0
       (omega (arith, h, length-set r iptrReg (atByte (getD r iptrReg 0) 1)))
 
-  small : byte / 2 ^ 4 < 16
-  unfolding byte byteAt
+  small : nextByte r mem / 2 ^ 4 < 16
+  unfolding byteAt
   small = omega arith
 
-  -- what it does, by its function
-  module _ (f : fetches r ≡ true) (b : index (getD r iptrReg 0) < length mem) where
-    unlisted-is : isUnlisted r mem ≡ (eqb (byte / 2 ^ 4) 0xF && not (listed (withNibble byte (getD r oreg 0)) operations))
-    unfolding isUnlisted byte
-    unlisted-is = rw (f, lt-ltb (index (getD r iptrReg 0)) (length mem) b, built-listed (withNibble (nextByte r mem) (getD r oreg 0)))
+  -- ---- a number that an instruction can answer only by an operation: 9, or 11
 
-    not-opr : (byte / 2 ^ 4 ≡ 0xF → ⊥) → isUnlisted r mem ≡ false
-    not-opr n = unlisted-is ∙ rw (ne-eqb (byte / 2 ^ 4) 0xF n)
+  module _ (n : ℕ) (some : 0 ≡ n → ⊥) (other : outside ≡ n → ⊥) (t : Bool) (told : t ≡ eqb (operate (nextCode r mem) mem (afterFetch) .answer) n)
+      (f : fetches r ≡ true) where
+    Told : Work → Type 0
+    Told w = (operates r mem && t) ≡ eqb (w .answer) n
 
-    plain : Fine (Answer NotNine) after-fetch
-    plain = not-nine-fine after-fetch fetch-count fetch-answer
+    told-not : (a : ℕ) → operates r mem ≡ false → (a ≡ n → ⊥) → (operates r mem && t) ≡ eqb a n
+    told-not a o q = rw o (sym (ne-eqb a n q))
 
-    nine : Fine (Answer (Is 9)) (refuse unlisted after-fetch)
-    unfolding refuseAt
-    nine = rw (yes-eq fetch-answer) (is-fine 9 _ fetch-count (λ z. omega (arith, z)) refl)
+    plain : Fine (Answer (Not n)) (afterFetch)
+    plain = not-fine n _ fetch-count other (λ q. some (sym fetch-answer ∙ q))
 
-    told-operate : byte / 2 ^ 4 ≡ 0xF → Told r mem (actOnSNP mem (put oreg 0 (operate (reg oreg after-fetch) mem after-fetch)))
-    unfolding Told
-    told-operate e =
-        by-bool (listed (reg oreg after-fetch) operations)
-        (λ l. unlisted-is
-        ∙ rw (eq-eqb (byte / 2 ^ 4) 0xF e, ← operand, l)
-        (sym (ne-eqb _ 9 (fine-actOnSNP mem (fine-put oreg 0 (fine-operate (reg oreg after-fetch) mem (λ z. not-nine 11 (λ q. omega (arith, q))) (λ z. never (sym z ∙ l)) plain)) .known))))
-        (λ l. unlisted-is
-        ∙ rw (eq-eqb (byte / 2 ^ 4) 0xF e, ← operand, l)
-        (sym (eq-eqb _ 9 (fine-actOnSNP mem (fine-put oreg 0 (subst (Fine (Answer (Is 9))) (sym (operate-unlisted (reg oreg after-fetch) mem after-fetch l)) nine)) .known))))
-
-    told-decode : Told r mem (decode mem (byte / 2 ^ 4) after-fetch)
-    unfolding decode execute
-    told-decode =
-        cases-eq (byte / 2 ^ 4) 0x2
-        (λ e. rw (yes-eq e) (told-not r mem _ (not-opr (λ q. omega (arith, e, q))) (fine-putCore _ plain .known)))
-        (λ n₂. cases-eq (byte / 2 ^ 4) 0x6
-        (λ e. rw (no-eq n₂, yes-eq e) (told-not r mem _ (not-opr (λ q. omega (arith, e, q))) (fine-putCore _ plain .known)))
+    told-inside : index (getD r iptrReg 0) < length mem → Told (decode mem (nextByte r mem / 2 ^ 4) (afterFetch))
+    unfolding decode execute Told
+    told-inside b =
+        cases-eq (nextByte r mem / 2 ^ 4) 0x2
+        (λ e. rw (yes-eq e) (told-not _ (not-opr (λ q. omega (arith, e, q))) (fine-putCore _ plain .known)))
+        (λ n₂. cases-eq (nextByte r mem / 2 ^ 4) 0x6
+        (λ e. rw (no-eq n₂, yes-eq e) (told-not _ (not-opr (λ q. omega (arith, e, q))) (fine-putCore _ plain .known)))
         (λ n₆. rw (no-eq n₂, no-eq n₆)
-        (cases-eq (byte / 2 ^ 4) 0xF
-        (λ e. subst (λ (c : ℕ). Told r mem (actOnSNP mem (put oreg 0 (function c mem after-fetch)))) (sym e) (rw (function-opr mem after-fetch) (told-operate e)))
-        (λ n₁₅. told-not r mem _ (not-opr n₁₅) (fine-actOnSNP mem (fine-put oreg 0 (fine-direct (byte / 2 ^ 4) mem small n₂ n₆ n₁₅ plain)) .known)))))
+        (cases-eq (nextByte r mem / 2 ^ 4) 0xF
+        (λ e. subst (λ (c : ℕ). Told (actOnSNP mem (put oreg 0 (function c mem (afterFetch))))) (sym e) (rw (function-opr mem (afterFetch), operand) (is-opr e)))
+        (λ n₁₅. told-not _ (not-opr n₁₅) (fine-actOnSNP mem (fine-put oreg 0 (fine-direct (nextByte r mem / 2 ^ 4) mem small n₂ n₆ n₁₅ plain)) .known)))))
+      where
+        not-opr : (nextByte r mem / 2 ^ 4 ≡ 0xF → ⊥) → operates r mem ≡ false
+        not-opr q = rw (f, lt-ltb (index (getD r iptrReg 0)) (length mem) b, ne-eqb (nextByte r mem / 2 ^ 4) 0xF q)
 
-  -- ---- the whole step
+        is-opr : nextByte r mem / 2 ^ 4 ≡ 0xF → Told (actOnSNP mem (put oreg 0 (operate (nextCode r mem) mem (afterFetch))))
+        is-opr e =
+            rw (f, lt-ltb (index (getD r iptrReg 0)) (length mem) b, eq-eqb (nextByte r mem / 2 ^ 4) 0xF e)
+            (told
+            ∙ same-number n some other (operate (nextCode r mem) mem (afterFetch)) _
+            (fine-operate (nextCode r mem) mem (λ c k a z kind address. tt) (λ l k a z kind address. tt) (any-fine _ fetch-count) .count)
+            (λ P t f. fine-actOnSNP mem (fine-put oreg 0 f)))
 
-  unlisted-outside : fetches r ≡ true → length mem ≤ index (getD r iptrReg 0) → isUnlisted r mem ≡ false
-  unfolding isUnlisted
-  unlisted-outside f b = rw (f, le-ltb (index (getD r iptrReg 0)) (length mem) b)
+    told-instruction : Told (instruction mem (begin r))
+    unfolding instruction Told
+    told-instruction =
+        cases-lt (index (getD r iptrReg 0)) (length mem)
+        (λ b. rw (inside-same mem kindFetch (getD r iptrReg 0) (begin r) b) (told-inside b))
+        (λ b. told-not (instruction mem (begin r) .answer) (rw (f, le-ltb (index (getD r iptrReg 0)) (length mem) b)) (λ q. other (sym (fetch-outside b) ∙ q)))
 
-  told-instruction : fetches r ≡ true → Told r mem (instruction mem (begin r))
-  unfolding instruction byte after-fetch
-  told-instruction f =
-      cases-lt (index (getD r iptrReg 0)) (length mem)
-      (λ b. rw (inside-same mem kindFetch (getD r iptrReg 0) (begin r) b) (told-decode f b))
-      (λ b. told-not r mem _ (unlisted-outside f b) (λ q. omega (arith, q, ten b .known)))
+  -- ---- 9
+
+  -- an operation is refused with 9 exactly where it is outside the built list
+  operate-nine : not (isBuilt (nextCode r mem)) ≡ eqb (operate (nextCode r mem) mem (afterFetch) .answer) 9
+  unfolding refuseAt
+  operate-nine =
+      by-bool (listed (nextCode r mem) operations)
+      (λ l. rw (built-listed (nextCode r mem), l)
+      (sym (ne-eqb _ 9 (fine-operate (nextCode r mem) mem (λ c. not-turns 9 11 (λ q. omega (arith, q))) (λ z. never (sym z ∙ l)) plain .known))))
+      (λ l. rw (built-listed (nextCode r mem), l, operate-unlisted (nextCode r mem) mem (afterFetch) l, yes-eq fetch-answer) refl)
     where
-      stays : {n : ℕ} → Turns (Answer (Is 10)) n
-      stays k a z kind address = absurd (let y : _≡_ {A = ℕ} 0 10 = z in omega arith)
+      plain : Fine (Answer (Not 9)) (afterFetch)
+      plain = not-fine 9 _ fetch-count (λ q. omega (arith, q)) (λ q. omega (arith, q, fetch-answer))
 
-      ten : length mem ≤ index (getD r iptrReg 0) → Fine (Answer (Is 10)) (decode mem (nextByte r mem / 2 ^ 4) (fetched (nextByte r mem) (access mem kindFetch (getD r iptrReg 0) (begin r))))
-      ten b = fine-decode mem _ stays stays (fine-fetched _ (is-fine 10 _ (fine-access mem kindFetch (getD r iptrReg 0) (not-nine-fine (begin r) h refl) .count) (λ z. omega (arith, z)) (outside-out mem kindFetch (getD r iptrReg 0) (begin r) b refl .is)))
+  begun : Begun (begin r)
+  begun = record { count = h; none = refl }
+
+  fetch-begun : Begun (afterFetch)
+  fetch-begun = record { count = fetch-count; none = fetch-answer }
+
+  -- what is served is not refused with 9
+  served-nine : fetches r ≡ false → (w : Work) → ((P : ℕ → ℕ → ℕ → Type 0) → Turns P stop → Fine P (begin r) → Fine P w) → isUnlisted r mem ≡ eqb (w .answer) 9
+  unfolding isUnlisted
+  served-nine f w keep =
+      rw f
+      (sym (ne-eqb (w .answer) 9 (keep (Answer (Not 9)) (not-turns 9 stop (λ q. omega (arith, q))) (not-fine 9 (begin r) h (λ q. omega (arith, q)) (λ q. omega (arith, q))) .known)))
 
   pub own-nine : isIdle r ≡ false → isUnlisted r mem ≡ eqb (choose mem (begin r) .answer) 9
-  unfolding Told
+  unfolding isUnlisted Told
   own-nine i =
-      by-choice r mem (Told r mem) i
-      (λ f. told-not r mem (actOnSNP mem (handleChannelRequest mem (requested (begin r)) (begin r))) (unfetched r mem f) (fine-actOnSNP mem (fine-handleChannelRequest mem _ (not-nine 11 (λ q. omega (arith, q))) fine) .known))
-      (λ n f. told-not r mem (actOnSNP mem (handleTimerRequest mem n (begin r))) (unfetched r mem f) (fine-actOnSNP mem (fine-handleTimerRequest mem n (not-nine 11 (λ q. omega (arith, q))) fine) .known))
-      told-instruction
+      by-choice r mem (λ w. isUnlisted r mem ≡ eqb (w .answer) 9) i
+      (λ f a. served-nine f _ (λ P s g. fine-actOnSNP mem (fine-handleChannelRequest mem (requested (begin r)) s g)))
+      (λ f a b. served-nine f _ (λ P s g. fine-actOnSNP mem (fine-handleTimerRequest mem 0 s g)))
+      (λ f a b. served-nine f _ (λ P s g. fine-actOnSNP mem (fine-handleTimerRequest mem 1 s g)))
+      (λ f. told-instruction 9 (λ q. omega (arith, q)) (λ q. omega (arith, q)) _ operate-nine f)
+
+  -- ---- 11
+
+  pub own-eleven : isIdle r ≡ false → Tells (stops r mem) (choose mem (begin r))
+  unfolding stops operationStops serviceStops Told ifLt
+  own-eleven i =
+      by-choice r mem (λ w. Tells (stops r mem) w) i
+      (λ f a. rw (f, a) (request-stops mem (requested (begin r)) begun ∙ after _ (fine-handleChannelRequest mem _ (λ k a z kind address. tt) (any-fine (begin r) h) .count)))
+      (λ f a b. rw (f, a, b) (timer-stops mem 0 begun ∙ after _ (fine-handleTimerRequest mem 0 (λ k a z kind address. tt) (any-fine (begin r) h) .count)))
+      (λ f a b. rw (f, a, b) (timer-stops mem 1 begun ∙ after _ (fine-handleTimerRequest mem 1 (λ k a z kind address. tt) (any-fine (begin r) h) .count)))
+      (λ f. yes f _ _ ∙ told-instruction 11 (λ q. omega (arith, q)) (λ q. omega (arith, q)) _ (sym (place-fetched (nextCode r mem) (nextByte r mem) mem (begin r)) ∙ operate-stops (nextCode r mem) mem fetch-begun) f)
     where
-      fine : Fine (Answer NotNine) (begin r)
-      fine = not-nine-fine (begin r) h refl
+      after : (w : Work) → length (w .regs) ≡ registers → eqb (w .answer) stop ≡ eqb (actOnSNP mem w .answer) stop
+      after w k = same-stop w (actOnSNP mem w) k (λ P t f. fine-actOnSNP mem f)
 
   -- its answer, in the table's order
   pub own-first : isIdle r ≡ false
-      → firstOf ((9, isUnlisted r mem) ∷ (10, eqb (choose mem (begin r) .answer) 10) ∷ (11, eqb (choose mem (begin r) .answer) 11) ∷ []) ≡ choose mem (begin r) .answer
+      → firstOf ((9, isUnlisted r mem) ∷ (10, eqb (choose mem (begin r) .answer) 10) ∷ (11, stops r mem) ∷ []) ≡ choose mem (begin r) .answer
   unfolding firstOf
-  own-first i = rw (own-nine i) (go (choose mem (begin r) .answer) (own-known i))
+  own-first i = rw (own-nine i, own-eleven i) (go (choose mem (begin r) .answer) (own-known i))
     where
       go : (n : ℕ) → Mine n → pick (eqb n 9) 9 (pick (eqb n 10) 10 (pick (eqb n 11) 11 0)) ≡ n
       go n k =

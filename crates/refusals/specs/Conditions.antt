@@ -5,7 +5,7 @@ use mathlib.Core.Bool.{Bool, true, false, _&&_, _||_, not}
 use mathlib.Core.List.{List, [], _∷_}
 use lib.Dec.{ltb, leb, eqb}
 use lib.ListN.{length, getD}
-use Rattle.rules.specs.Tests.{pick, ifEq, ifSet}
+use Rattle.rules.specs.Tests.{pick, ifLt, ifEq, ifSet, look}
 use Rattle.rules.specs.Registers.{iptrReg, oreg, statusReg, flagsReg, pointerReg, countReg, channelReg, haltedFlag, idleFlag, activeBit, heldBit, linkChans, eventChannel}
 use Rattle.rules.specs.Words.{index, withNibble}
 use Rattle.rules.specs.Memory.{touched}
@@ -13,10 +13,10 @@ use Rattle.rules.specs.Work.{Work, begin, byteAt}
 use Rattle.rules.specs.Timers.{timerReady}
 use Rattle.rules.specs.Channels.{requested}
 use Rattle.rules.specs.Journal.{recordLength, frameBad, lastPairs, lastStart, pairsAt, strays}
-use Rattle.rules.specs.Links as links
 use Rattle.rules.specs.Step as steps
 use Rattle.rules.specs.Calls.{sizeBad, codeBad, notOutput, notInput}
 use Rattle.rules.specs.declared.Machine.{Machine}
+use Rattle.laws.specs.Stops.{stopPlaces, nowhere, requestStops, timerStops}
 
 -- the first number whose condition holds, 0 where none does (01, Answers by number: checks run in the order of the table)
 unfoldable pub firstOf : List (ℕ × Bool) → ℕ
@@ -27,13 +27,18 @@ firstOf (e ∷ es) = pick (e .1) (e .0) (firstOf es)
 abbrev pub frame : Machine → List ℕ → Bool
 frame m j = frameBad (length j) (m .depth) (m .used)
 
--- 4 JournalBad, of undo with depth above 0: the last record is longer than used (01, Answers by number)
+-- the last record is longer than used (01, Answers by number, 4)
 abbrev pub lastTooLong : Machine → List ℕ → Bool
 lastTooLong m j = ltb (m .used) (recordLength (lastPairs j (m .used)))
 
--- 4 JournalBad, of undo with depth above 0: a pair's index is N or more (01, Answers by number)
+-- a pair's index is N or more (01, Answers by number, 4)
 abbrev pub pairOutside : Machine → List ℕ → List ℕ → Bool
 pairOutside m mem j = strays (length mem) (pairsAt j (lastStart j (m .used)) (lastPairs j (m .used)))
+
+-- 4 JournalBad, of undo: as in every call; or depth is above 0, and the last record is longer than used or a pair's index is N or more
+-- (01, Answers by number; DECISIONS 35)
+abbrev pub undoBad : Machine → List ℕ → List ℕ → Bool
+undoBad m mem j = frame m j || (ltb 0 (m .depth) && (lastTooLong m j || pairOutside m mem j))
 
 -- 5 NothingToUndo: depth 0 (01, Answers by number)
 abbrev pub nothingToUndo : Machine → Bool
@@ -84,14 +89,17 @@ isBuilt k =
 abbrev pub nextByte : List ℕ → List ℕ → ℕ
 nextByte r mem = byteAt mem (getD r iptrReg 0) (begin r)
 
--- 9 Unlisted: the byte was fetched, and makes an operation outside the built list: its function is `opr`, and Oreg with its nibble
--- is no code of the list (01, Answers by number; DECISIONS 1)
+-- (c) makes an operation: the byte at Iptr is inside memory, and its function is `opr` (01, One step (c); 000 1.11, operate)
+abbrev pub operates : List ℕ → List ℕ → Bool
+operates r mem = fetches r && ltb (index (getD r iptrReg 0)) (length mem) && eqb (nextByte r mem / 2 ^ 4) 0xF
+
+-- the code of that operation: Oreg with the byte's nibble (DECISIONS 1, 2)
+abbrev pub nextCode : List ℕ → List ℕ → ℕ
+nextCode r mem = withNibble (nextByte r mem) (getD r oreg 0)
+
+-- 9 Unlisted: the byte was fetched, and makes an operation outside the built list (01, Answers by number; DECISIONS 1)
 unfoldable pub isUnlisted : List ℕ → List ℕ → Bool
-isUnlisted r mem =
-    fetches r
-    && ltb (index (getD r iptrReg 0)) (length mem)
-    && eqb (nextByte r mem / 2 ^ 4) 0xF
-    && not (isBuilt (withNibble (nextByte r mem) (getD r oreg 0)))
+isUnlisted r mem = operates r mem && not (isBuilt (nextCode r mem))
 
 -- 10 Outside, of take and give: the byte at the pointer of a moving link (01, Answers by number; DECISIONS 32)
 abbrev pub pointerOutside : ℕ → List ℕ → List ℕ → Bool
@@ -106,13 +114,31 @@ ownAnswer r mem = steps.choose mem (begin r) .answer
 abbrev pub stepOutside : List ℕ → List ℕ → Bool
 stepOutside r mem = eqb (ownAnswer r mem) 10
 
--- 11 Stop: an IF of 000 with no true branch, or a ring in a timer queue (01, Answers by number; DECISIONS 26, 27)
-abbrev pub stepStops : List ℕ → List ℕ → Bool
-stepStops r mem = eqb (ownAnswer r mem) 11
+-- (c) Stops: the byte makes an operation that Stops at its place (01, Answers by number; DECISIONS 26)
+unfoldable pub operationStops : List ℕ → List ℕ → Bool
+operationStops r mem = operates r mem && look stopPlaces (nextCode r mem) nowhere mem (begin r)
 
--- 12 JournalFull: the record of the worked-out call does not fit after used (01, Answers by number)
-abbrev pub full : Machine → List ℕ → List ℕ → Work → Bool
-full m mem j w = ltb (length j) (m .used + recordLength (length (touched (length mem) (w .stored))))
+-- (a) or (b) Stops: the channel, else the timer that is served (01, One step (a), (b); DECISIONS 26)
+unfoldable pub serviceStops : List ℕ → List ℕ → Bool
+serviceStops r mem =
+    ifLt (requested (begin r)) linkChans (requestStops (requested (begin r)) mem (begin r))
+    (pick (timerReady 0 (begin r)) (timerStops 0 mem (begin r)) (timerStops 1 mem (begin r)))
+
+-- 11 Stop: an IF of 000 with no true branch, or a ring in a timer queue (01, Answers by number; DECISIONS 26, 27)
+unfoldable pub stops : List ℕ → List ℕ → Bool
+stops r mem = pick (fetches r) (operationStops r mem) (serviceStops r mem)
+
+-- 12 JournalFull: a record of so many pairs does not fit after used (01, Answers by number; 01, The journal)
+abbrev pub full : ℕ → Machine → List ℕ → Bool
+full pairs m j = ltb (length j) (m .used + recordLength pairs)
+
+-- the pairs of a give's record: one where the byte is stored, none where it is held (01, Links, clocks, slice; 01, The journal)
+abbrev pub givePairs : ℕ → List ℕ → ℕ
+givePairs c r = pick (isMoving c r) 1 0
+
+-- the pairs of a step's record: one for each word that its stores touch (01, The journal; DECISIONS 38)
+abbrev pub stepPairs : List ℕ → List ℕ → ℕ
+stepPairs r mem = length (touched (length mem) (steps.step mem (begin r) .stored))
 
 -- ---- each call's numbers with their conditions, in the table's order
 
@@ -127,7 +153,7 @@ module _ (m : Machine) (mem j : List ℕ) where
 
   -- tick: 1, 4, 12 (01, Answers by number; DECISIONS 37)
   abbrev pub tickNumbers : List (ℕ × Bool)
-  tickNumbers = (1, sizeBad mem j) ∷ (4, frame m j) ∷ (12, full m mem j (links.tick (begin (m .regs)))) ∷ []
+  tickNumbers = (1, sizeBad mem j) ∷ (4, frame m j) ∷ (12, full 0 m j) ∷ []
 
   -- event: 1, 4, 8, 12 (01, Answers by number; DECISIONS 37)
   abbrev pub eventNumbers : List (ℕ × Bool)
@@ -135,18 +161,12 @@ module _ (m : Machine) (mem j : List ℕ) where
       (1, sizeBad mem j)
       ∷ (4, frame m j)
       ∷ (8, giveNotReady eventChannel (m .regs))
-      ∷ (12, full m mem j (links.event (begin (m .regs))))
+      ∷ (12, full 0 m j)
       ∷ []
 
-  -- undo: 1, 4 by depth and used, 5, then 4 by the last record (01, Answers by number; DECISIONS 35)
+  -- undo: 1, 4, 5 (01, Answers by number; DECISIONS 35)
   abbrev pub undoNumbers : List (ℕ × Bool)
-  undoNumbers =
-      (1, sizeBad mem j)
-      ∷ (4, frame m j)
-      ∷ (5, nothingToUndo m)
-      ∷ (4, lastTooLong m j)
-      ∷ (4, pairOutside m mem j)
-      ∷ []
+  undoNumbers = (1, sizeBad mem j) ∷ (4, undoBad m mem j) ∷ (5, nothingToUndo m) ∷ []
 
   -- step: 1, 4, 6, 7, 9, 10, 11, 12; of 10 and 11 the first in 000's order (01, Answers by number; DECISIONS 25)
   abbrev pub stepNumbers : List (ℕ × Bool)
@@ -157,8 +177,8 @@ module _ (m : Machine) (mem j : List ℕ) where
       ∷ (7, isIdle (m .regs))
       ∷ (9, isUnlisted (m .regs) mem)
       ∷ (10, stepOutside (m .regs) mem)
-      ∷ (11, stepStops (m .regs) mem)
-      ∷ (12, full m mem j (steps.step mem (begin (m .regs))))
+      ∷ (11, stops (m .regs) mem)
+      ∷ (12, full (stepPairs (m .regs) mem) m j)
       ∷ []
 
 -- take: 1, 3, 4, 8, 10, 12 (01, Answers by number; DECISIONS 32)
@@ -169,7 +189,7 @@ takeNumbers c m mem j =
     ∷ (4, frame m j)
     ∷ (8, takeNotReady c (m .regs))
     ∷ (10, pointerOutside c (m .regs) mem)
-    ∷ (12, full m mem j (links.take mem c (begin (m .regs))))
+    ∷ (12, full 0 m j)
     ∷ []
 
 -- give: 1, 3, 4, 8, 10, 12 (01, Answers by number; DECISIONS 32)
@@ -180,5 +200,5 @@ giveNumbers c byte m mem j =
     ∷ (4, frame m j)
     ∷ (8, giveNotReady c (m .regs))
     ∷ (10, pointerOutside c (m .regs) mem)
-    ∷ (12, full m mem j (links.give mem c byte (begin (m .regs))))
+    ∷ (12, full (givePairs c (m .regs)) m j)
     ∷ []
