@@ -2,3 +2,4 @@ pub mod Built
 pub mod Own
 pub mod Stored
 pub mod Exactly
+pub mod Rings
