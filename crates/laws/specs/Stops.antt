@@ -15,7 +15,7 @@ use Rattle.rules.specs.Timers.{tptrLoc, nextTime, timerUnlink}
 use Rattle.laws.specs.Lists.{listed}
 use Rattle.laws.specs.Ring.{isOutside, insertRings, deleteRings, InsertRing, DeleteRing}
 
--- a place: a test of memory and of work, which is a list of registers and the stores so far (DECISIONS 26, 44)
+-- a place: a test of memory and of the work there, its registers and its stores so far (DECISIONS 26, 44)
 abbrev pub Place : Type 0
 Place = List ℕ → Work → Bool
 
@@ -102,7 +102,9 @@ markStops m w =
 unfoldable pub taltwtStops : Place
 taltwtStops m w = not (eqb (reg creg (stateLoaded m w)) ready) && markStops m (linkLoaded m (stateLoaded m w))
 
--- ---- the operations that can Stop, and where: tin, dist, lshr, lshl, shr, shl, enbt, taltwt (DECISIONS 26, 27)
+-- ---- operations
+
+-- the operations that can Stop, each with its place: tin, dist, lshr, lshl, shr, shl, enbt, taltwt (DECISIONS 26, 27)
 abbrev pub stopPlaces : List (ℕ × Place)
 stopPlaces =
     (0x2B, tinStops)

@@ -158,27 +158,27 @@ module _ (m : Machine) (mem j : List ℕ) (h : length (m .regs) ≡ registers) (
         ∙ ap (λ (c : ℕ). look stopPlaces c nowhere mem (begin r)) e
 
     -- shl and shr, lshl and lshr
-    pub shift-exactly : (nextCode r mem ≡ 0x41) ⊎ (nextCode r mem ≡ 0x40) → (rules.step m mem j .answer ≡ 11) ↔ (32 < getD r areg 0)
-    shift-exactly c =
+    pub shift-call : (nextCode r mem ≡ 0x41) ⊎ (nextCode r mem ≡ 0x40) → (rules.step m mem j .answer ≡ 11) ↔ (32 < getD r areg 0)
+    shift-call c =
         iff-trans step-stops
         (iff-same _ _ (⊎-elim (at-place 0x41) (at-place 0x40) c) (above 32 (getD r areg 0)))
 
-    pub long-shift-exactly : (nextCode r mem ≡ 0x36) ⊎ (nextCode r mem ≡ 0x35) → (rules.step m mem j .answer ≡ 11) ↔ (64 < getD r areg 0)
-    long-shift-exactly c =
+    pub long-shift-call : (nextCode r mem ≡ 0x36) ⊎ (nextCode r mem ≡ 0x35) → (rules.step m mem j .answer ≡ 11) ↔ (64 < getD r areg 0)
+    long-shift-call c =
         iff-trans step-stops
         (iff-same _ _ (⊎-elim (at-place 0x36) (at-place 0x35) c) (above 64 (getD r areg 0)))
 
     -- THE RINGS, of a call
-    pub tin-exactly : nextCode r mem ≡ 0x2B → (rules.step m mem j .answer ≡ 11) ↔ TinRing mem start
-    tin-exactly c = iff-trans step-stops (iff-same _ _ (at-place 0x2B c) (tin-iff mem large start h))
+    pub tin-ring : nextCode r mem ≡ 0x2B → (rules.step m mem j .answer ≡ 11) ↔ TinRing mem start
+    tin-ring c = iff-trans step-stops (iff-same _ _ (at-place 0x2B c) (tin-iff mem large start h))
 
-    pub dist-exactly : nextCode r mem ≡ 0x2E → (rules.step m mem j .answer ≡ 11) ↔ DistRing mem start
-    dist-exactly c = iff-trans step-stops (iff-same _ _ (at-place 0x2E c) (dist-iff mem large start h refl))
+    pub dist-ring : nextCode r mem ≡ 0x2E → (rules.step m mem j .answer ≡ 11) ↔ DistRing mem start
+    dist-ring c = iff-trans step-stops (iff-same _ _ (at-place 0x2E c) (dist-iff mem large start h refl))
 
     -- taltwt, where its state is not Ready.p and its TLink word is TimeSet.p: as tin does, with the time loaded into Areg
-    pub taltwt-exactly : nextCode r mem ≡ 0x51 → (reg creg (stateLoaded mem start) ≡ ready → ⊥) → reg breg (linkLoaded mem (stateLoaded mem start)) ≡ timeSet
+    pub taltwt-ring : nextCode r mem ≡ 0x51 → (reg creg (stateLoaded mem start) ≡ ready → ⊥) → reg breg (linkLoaded mem (stateLoaded mem start)) ≡ timeSet
         → (rules.step m mem j .answer ≡ 11) ↔ TinRing mem (timeLoaded mem (linkLoaded mem (stateLoaded mem start)))
-    taltwt-exactly c n t = iff-trans step-stops (iff-same _ _ (at-place 0x51 c ∙ marked mem start n t) (tin-iff mem large (timeLoaded mem (linkLoaded mem (stateLoaded mem start))) loaded))
+    taltwt-ring c n t = iff-trans step-stops (iff-same _ _ (at-place 0x51 c ∙ marked mem start n t) (tin-iff mem large (timeLoaded mem (linkLoaded mem (stateLoaded mem start))) loaded))
       where
         loaded : length (timeLoaded mem (linkLoaded mem (stateLoaded mem start)) .regs) ≡ registers
         loaded = fine-rIndexWord mem _ _ _ (fine-rIndexWord mem _ _ _ (fine-rIndexWord mem _ _ _ (fine-wIndexWord mem _ _ _ (any-fine start h)))) .count
