@@ -1,4 +1,5 @@
--- What keeps every property of the answer (Fine) keeps a refusal, and what asks nothing of 11 Stops nowhere. Assumes nothing.
+-- What keeps every property of the answer (Fine) keeps a refusal, and what asks nothing of 11 Stops nowhere. So how a test of a place tells whether
+-- the work there Stops. Assumes nothing.
 use mathlib.Core.Path.{_≡_, refl, sym, subst, _∙_}
 use mathlib.Core.Logic.{_↔_}
 use mathlib.Core.Bool.{Bool, true, false, _&&_, not}
@@ -6,7 +7,7 @@ use mathlib.Core.List.{List}
 use Prim.Native.Nat.{ℕ, _≤_, _<_}
 use native.Mathlib.Omega.{arith}
 use borrow.Author.Tests.{eq-eqb, ne-eqb, le-leb, lt-leb}
-use lib.Dec.{eqb, leb}
+use lib.Dec.{eqb}
 use lib.ListN.{length}
 use Rattle.rules.specs.Words.{index}
 use Rattle.rules.specs.Registers.{registers}
@@ -18,6 +19,10 @@ use Rattle.laws.proofs.Fine.{Fine, Turns, fine-access}
 
 pub never : {A : Type 0} → _≡_ {A = Bool} false true → A
 never e = absurd (let z : _≡_ {A = ℕ} 0 1 = cc in omega arith)
+
+pub and-false : (a : Bool) → (a && false) ≡ false
+and-false true = refl
+and-false false = refl
 
 -- ---- properties of the answer alone
 
@@ -53,9 +58,12 @@ calm-none {w} h e = not-fine stop w h (λ q. omega (arith, q)) (λ q. omega (ari
 
 -- ---- what keeps every property
 
+-- v comes of w by what keeps every property that each refusal may have
+abbrev pub Keeping : Work → Work → Type 1
+Keeping w v = (P : ℕ → ℕ → ℕ → Type 0) → ((k : ℕ) → Turns P k) → Fine P w → Fine P v
+
 -- once refused, the number stays
-pub refused-stays : (n : ℕ) (w v : Work) → length (w .regs) ≡ registers → (0 ≡ n → ⊥) → w .answer ≡ n
-    → ((P : ℕ → ℕ → ℕ → Type 0) → ((k : ℕ) → Turns P k) → Fine P w → Fine P v) → v .answer ≡ n
+pub refused-stays : (n : ℕ) (w v : Work) → length (w .regs) ≡ registers → (0 ≡ n → ⊥) → w .answer ≡ n → Keeping w v → v .answer ≡ n
 refused-stays n w v h z e keep = keep (Answer (Is n)) (λ k kind a q. absurd (z q)) (is-fine n w h z e) .known
 
 -- what asks nothing of a number, which is not that of an access outside, turns no answer into it, and takes none away
@@ -86,8 +94,7 @@ module _ (m : List ℕ) (kind a : ℕ) (w : Work) where
   outside-out h e = record { is = rw (no-lt h, yes-eq e) }
 
   -- after one outside, whatever keeps every property is not refused with Stop
-  pub lost : length (w .regs) ≡ registers → length m ≤ index a → w .answer ≡ 0 → (v : Work)
-      → ((P : ℕ → ℕ → ℕ → Type 0) → ((k : ℕ) → Turns P k) → Fine P (access m kind a w) → Fine P v) → Calm v
+  pub lost : length (w .regs) ≡ registers → length m ≤ index a → w .answer ≡ 0 → (v : Work) → Keeping (access m kind a w) v → Calm v
   lost h out e v keep =
       let f = keep (Answer (Is outside)) (λ k kind a q. absurd (let z : _≡_ {A = ℕ} 0 10 = q in omega arith))
       (is-fine outside (access m kind a w) (fine-access m kind a (calm-none h e) .count) (λ q. omega (arith, q)) (outside-out out e .is)) in
@@ -98,10 +105,6 @@ module _ (m : List ℕ) (kind a : ℕ) (w : Work) where
 -- the work v Stops exactly where the test t holds
 abbrev pub Tells : Bool → Work → Type 0
 Tells t v = t ≡ eqb (v .answer) stop
-
--- what keeps every property, wherever it comes to
-abbrev pub Keeping : Work → Work → Type 1
-Keeping w v = (P : ℕ → ℕ → ℕ → Type 0) → ((k : ℕ) → Turns P k) → Fine P w → Fine P v
 
 pub tells-calm : {v : Work} → Calm v → Tells false v
 tells-calm c = sym (ne-eqb _ _ (c .known))

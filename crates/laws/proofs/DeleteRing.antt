@@ -12,7 +12,7 @@ use Rattle.rules.specs.Tests.{pick, ifEq}
 use Rattle.rules.specs.Words.{atWord, index}
 use Rattle.rules.specs.Memory.{stores}
 use Rattle.rules.specs.Registers.{registers}
-use Rattle.rules.specs.Work.{Work, wptr, stop, outside, refuseAt, wordAt, loadWord}
+use Rattle.rules.specs.Work.{Work, wptr, stop, refuseAt, wordAt}
 use Rattle.rules.specs.Scheduling.{tlinkS}
 use Rattle.rules.specs.Timers.{deleteFinalStep, deleteWalk}
 use Rattle.rules.proofs.Tests.{yes-eq, no-eq, on-eq, cases-lt}

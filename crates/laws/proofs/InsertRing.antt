@@ -12,7 +12,7 @@ use Rattle.rules.specs.Tests.{pick, ifEq}
 use Rattle.rules.specs.Words.{atWord, index, later}
 use Rattle.rules.specs.Memory.{stores}
 use Rattle.rules.specs.Registers.{registers}
-use Rattle.rules.specs.Work.{Work, stop, outside, refuseAt, wordAt, loadWord}
+use Rattle.rules.specs.Work.{Work, stop, refuseAt, wordAt, loadWord}
 use Rattle.rules.specs.Scheduling.{notProcess, tlinkS, timeS}
 use Rattle.rules.specs.Timers.{insertFinalStep, insertWalk}
 use Rattle.rules.proofs.Tests.{yes-eq, no-eq, on-pick, on-eq, cases-lt}

@@ -1,24 +1,24 @@
 -- The places of an instruction read neither Iptr nor Oreg, so their tests are the same after the fetch as at the step's start. Assumes nothing.
 use mathlib.Core.Path.{_≡_, refl, sym, ap, _∙_}
-use mathlib.Core.Bool.{Bool, true, false, _&&_, _||_, not}
+use mathlib.Core.Bool.{Bool, true, false}
 use mathlib.Core.List.{List, [], _∷_}
 use Prim.Native.Nat.{ℕ, _+_, _≤_}
 use native.Mathlib.Omega.{arith}
 use lib.Dec.{eqb}
-use lib.ListN.{length, getD}
+use lib.ListN.{length}
 use lib.Seq.{getD-set-other, set-comm}
-use Rattle.rules.specs.Tests.{pick, ifLt, ifEq, look}
-use Rattle.rules.specs.Words.{atByte, atWord, index, later, clearBits}
-use Rattle.rules.specs.Core.{wptrOf, priorityOf}
+use Rattle.rules.specs.Tests.{pick, look}
+use Rattle.rules.specs.Words.{atByte, atWord, index, clearBits}
+use Rattle.rules.specs.Core.{wptrOf}
 use Rattle.rules.specs.Registers.{iptrReg, wdescReg, areg, breg, creg, oreg, clockReg, flagsReg, tEnabled}
 use Rattle.rules.specs.Memory.{Store, word}
 use Rattle.rules.specs.Work.{Work, reg, put, lower, wptr, priority, append, access, refuseAt, outside, wordAt, loadWord, kindLoad, kindStore, storeWord, rIndexWord, wIndexWord}
-use Rattle.rules.specs.Scheduling.{ready, waiting, timeSet, noneSelected, stateS, tlinkS, timeS}
+use Rattle.rules.specs.Scheduling.{waiting, noneSelected, stateS, tlinkS, timeS}
 use Rattle.rules.specs.Timers.{tptrLoc, nextTime}
 use Rattle.rules.specs.Step.{fetched}
 use Rattle.rules.proofs.Tests.{yes-lt, no-lt, yes-eq, no-eq, cases-lt, cases-eq}
 use Rattle.laws.specs.Ring.{comesAgain, isOutside, nextPointer, insertEnds, deleteEnds, insertRings, deleteRings}
-use Rattle.laws.specs.Stops.{Place, shiftStops, longShiftStops, insertStarted, insertStops, deleteStarted, deleteStops, isMark, unmarked, enbtStops, tinStops, distStops, stateLoaded, linkLoaded, markStops, taltwtStops, stopPlaces, nowhere}
+use Rattle.laws.specs.Stops.{Place, shiftStops, longShiftStops, insertStarted, insertStops, deleteStops, unmarked, enbtStops, tinStops, distStops, stateLoaded, linkLoaded, markStops, taltwtStops, stopPlaces, nowhere}
 
 -- register i is one that no place reads: Iptr or Oreg
 module _ (i x : ℕ) (apart : (k : ℕ) → 1 ≤ k → (k ≡ oreg → ⊥) → k ≡ i → ⊥) (m : List ℕ) where

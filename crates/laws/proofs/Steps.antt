@@ -33,13 +33,13 @@ unfolding lower put
 lower-answer k mask w = refl
 
 module _ (m : List ℕ) (w : Work) (count : length (w .regs) ≡ registers) where
-  started-count : length (insertStarted m w .regs) ≡ registers
+  pub started-count : length (insertStarted m w .regs) ≡ registers
   started-count = fine-wIndexWord m _ _ _ (fine-wIndexWord m _ _ _ (any-fine w count)) .count
 
-  off-count : length (deleteStarted w .regs) ≡ registers
+  pub off-count : length (deleteStarted w .regs) ≡ registers
   off-count = fine-lower _ _ (any-fine w count) .count
 
-  off-answer : w .answer ≡ 0 → deleteStarted w .answer ≡ 0
+  pub off-answer : w .answer ≡ 0 → deleteStarted w .answer ≡ 0
   off-answer e = lower-answer _ _ w ∙ e
 
   -- a time is stored in the workspace, then the walk begins at the queue's first word

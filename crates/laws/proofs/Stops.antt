@@ -3,33 +3,32 @@
 use mathlib.Core.Path.{_≡_, refl, sym, subst, _∙_}
 use mathlib.Core.Bool.{Bool, true, false, _&&_, _||_, not}
 use mathlib.Core.List.{List, [], _∷_}
-use Prim.Native.Nat.{ℕ, _≤_, _<_}
+use Prim.Native.Nat.{ℕ}
 use native.Mathlib.Omega.{arith}
 use borrow.Author.Tests.{lt-ltb, le-ltb, eq-eqb, ne-eqb, eqb-true}
 use lib.Bits.{bitAnd}
 use lib.Dec.{ltb, eqb}
-use lib.ListN.{length, getD}
-use Rattle.rules.specs.Tests.{pick, ifLt, ifEq, look}
-use Rattle.rules.specs.Words.{atWord, index, later}
-use Rattle.rules.specs.Core.{wptrOf}
+use lib.ListN.{length}
+use Rattle.rules.specs.Tests.{pick, ifLt, look}
+use Rattle.rules.specs.Words.{atWord, later}
 use Rattle.rules.specs.Stack as stack
 use Rattle.rules.specs.Registers.{registers, areg, breg, creg, clockReg, flagsReg, channelReg, tEnabled, coreOf, runRequest, readyRequest}
-use Rattle.rules.specs.Work.{Work, reg, put, lower, wptr, priority, stop, unlisted, refuse, refuseAt, putCore, attempted, onAttempt, wordAt, access, loadWord, kindLoad, readWord, rIndexWord, wIndexWord}
-use Rattle.rules.specs.Scheduling.{enabling, waiting, ready, timeSet, timeNotSet, portBase, stateS, pointerS, tlinkS, timeS, wait}
-use Rattle.rules.specs.Timers.{tptrLoc, nextTime, insertFirstStep, deleteFirstStep, tin, timeNow, taltwtTime, taltwtLink, taltwtState, taltwt, enbtFirst, enbtEarlier, enbtLink, enbtGuard, enbt, distReady, distSet, distLink, dist, timerStatus, timerWake, timerFront, timerServe, handleTimerRequest}
-use Rattle.rules.specs.Channels.{readyStatus, readyContent, handleRunRequest, handleReadyRequest, handleChannelRequest}
+use Rattle.rules.specs.Work.{Work, reg, put, lower, wptr, priority, stop, unlisted, refuse, putCore, attempted, onAttempt, wordAt, kindLoad, readWord, rIndexWord}
+use Rattle.rules.specs.Scheduling.{enabling, waiting, ready, timeSet, timeNotSet, portBase, pointerS, tlinkS, timeS}
+use Rattle.rules.specs.Timers.{nextTime, insertFirstStep, deleteFirstStep, tin, taltwtTime, taltwtLink, taltwtState, taltwt, enbtLink, enbtGuard, enbt, distSet, distLink, dist, timerStatus, timerWake, timerFront, timerServe, handleTimerRequest}
+use Rattle.rules.specs.Channels.{readyStatus, readyContent, handleReadyRequest, handleChannelRequest}
 use Rattle.rules.specs.Operations.{operations, operate}
 use Rattle.rules.specs.declared.Attempt.{Attempt}
 use Rattle.rules.proofs.Tests.{yes-lt, no-lt, yes-eq, no-eq, cases-eq, cases-lt, by-bool}
 use Rattle.laws.specs.Lists.{listed}
 use Rattle.laws.specs.Ring.{isOutside}
-use Rattle.laws.specs.Stops.{Place, going, insertStops, shiftStops, longShiftStops, isMark, unmarked, enbtStops, tinStops, distStops, stateLoaded, linkLoaded, markStops, taltwtStops, deleteStops, stopPlaces, canStop, nowhere, readyOrWaiting, channelStatus, requestStops, timerUnlinked, frontStatus, timerStops}
-use Rattle.laws.proofs.Fine.{Fine, fine-access, fine-put, fine-putCore, fine-lower, fine-rIndexWord, fine-wIndexWord, fine-refuse}
+use Rattle.laws.specs.Stops.{Place, going, insertStops, shiftStops, longShiftStops, isMark, unmarked, enbtStops, tinStops, distStops, stateLoaded, markStops, taltwtStops, deleteStops, stopPlaces, canStop, nowhere, readyOrWaiting, channelStatus, requestStops, timerStops}
+use Rattle.laws.proofs.Fine.{fine-access, fine-put, fine-putCore, fine-lower, fine-rIndexWord, fine-wIndexWord, fine-refuse}
 use Rattle.laws.proofs.FineScheduling.{fine-wait}
 use Rattle.laws.proofs.FineTimers.{fine-nextTime, fine-dropB, fine-timeNow, fine-enbtFirst, fine-enbtEarlier, fine-enbtLink, fine-enbtGuard, fine-distReady, fine-distLink, fine-deleteFirstStep, fine-timedOut, fine-timerStatus, fine-timerUnlink}
 use Rattle.laws.proofs.FineChannels.{fine-readyWaiting, fine-readyStatus, fine-readyContent, fine-handleRunRequest}
 use Rattle.laws.proofs.FineOperations.{look-unlisted, fine-operate}
-use Rattle.laws.proofs.Calm.{never, not-turns, Calm, calm-none, any-fine, same-stop, Tells, tells-calm, tells-stop, regroup, tells-going, tells-read}
+use Rattle.laws.proofs.Calm.{never, and-false, not-turns, Calm, calm-none, any-fine, same-stop, Tells, tells-calm, tells-stop, regroup, tells-going, tells-read}
 use Rattle.laws.proofs.Steps.{insert-stops, delete-stops}
 
 -- work that has not been refused
@@ -39,10 +38,6 @@ pub record Begun (w : Work) : Type 0 where
 
 calm : {w : Work} → Begun w → Calm w
 calm b = calm-none (b .count) (b .none)
-
-and-false : (a : Bool) → (a && false) ≡ false
-and-false true = refl
-and-false false = refl
 
 or-false : (a : Bool) → (a || false) ≡ a
 or-false true = refl

@@ -1,5 +1,6 @@
 -- The places where a step Stops (01, Answers by number, 11; DECISIONS 26, 27): an IF of 000 with no true branch, or a ring in a timer queue.
 -- Each is a test of memory and work at the step's start. Where stores come before a place, the test names the work after them.
+use mathlib.Core.Path.{_≡_}
 use mathlib.Core.Bool.{Bool, true, false, _&&_, _||_, not}
 use mathlib.Core.List.{List, [], _∷_}
 use Prim.Native.Nat.{ℕ}
@@ -12,9 +13,9 @@ use Rattle.rules.specs.Work.{Work, reg, lower, wptr, priority, wordAt, readWord
 use Rattle.rules.specs.Scheduling.{enabling, waiting, ready, timeSet, timeNotSet, noneSelected, portBase, stateS, pointerS, tlinkS, timeS}
 use Rattle.rules.specs.Timers.{tptrLoc, nextTime, timerUnlink}
 use Rattle.laws.specs.Lists.{listed}
-use Rattle.laws.specs.Ring.{isOutside, insertRings, deleteRings}
+use Rattle.laws.specs.Ring.{isOutside, insertRings, deleteRings, InsertRing, DeleteRing}
 
--- a place: a test of memory and of work, which is a list of registers and the stores so far (DECISIONS 26, 44)
+-- a place: a test of memory and of the work there, its registers and its stores so far (DECISIONS 26, 44)
 abbrev pub Place : Type 0
 Place = List ℕ → Work → Bool
 
@@ -86,18 +87,24 @@ stateLoaded m w = rIndexWord m (wptr w) stateS creg (wIndexWord m (wptr w) 0 non
 abbrev pub linkLoaded : List ℕ → Work → Work
 linkLoaded m w = rIndexWord m (wptr w) tlinkS breg w
 
+-- the work after it has loaded its time into Areg (000 1.11, timer alt wait)
+abbrev pub timeLoaded : List ℕ → Work → Work
+timeLoaded m w = rIndexWord m (wptr w) timeS areg w
+
 -- taltwt with the TLink word in Breg: it is neither mark; or it is TimeSet.p, and with the time loaded into Areg it runs in a ring as
 -- tin does (000 1.11, timer alt wait; DECISIONS 26, 27)
 unfoldable pub markStops : Place
 markStops m w =
     (going w && not (isMark (reg breg w)))
-    || (eqb (reg breg w) timeSet && tinStops m (rIndexWord m (wptr w) timeS areg w))
+    || (eqb (reg breg w) timeSet && tinStops m (timeLoaded m w))
 
 -- taltwt: its state is not Ready.p, and the TLink word makes it Stop (000 1.11, timer alt wait; DECISIONS 26)
 unfoldable pub taltwtStops : Place
 taltwtStops m w = not (eqb (reg creg (stateLoaded m w)) ready) && markStops m (linkLoaded m (stateLoaded m w))
 
--- ---- the operations that can Stop, and where: tin, dist, lshr, lshl, shr, shl, enbt, taltwt (DECISIONS 26, 27)
+-- ---- operations
+
+-- the operations that can Stop, each with its place: tin, dist, lshr, lshl, shr, shl, enbt, taltwt (DECISIONS 26, 27)
 abbrev pub stopPlaces : List (ℕ × Place)
 stopPlaces =
     (0x2B, tinStops)
@@ -155,3 +162,23 @@ timerStops queue m w =
     going (timerUnlinked queue m w)
     && not (isOutside m (frontStatus queue m w))
     && not (readyOrWaiting (wordAt m (frontStatus queue m w) (timerUnlinked queue m w)))
+
+-- ---- the rings of a step, by the list of the pointer values passed
+
+-- the stores of an insertion are inside memory, and its walk comes again to a pointer value that it has passed (DECISIONS 27)
+abbrev pub InsertsInRing : List ℕ → Work → Type 0
+InsertsInRing m w =
+    (insertStarted m w .answer ≡ 0)
+    × InsertRing m (insertStarted m w) (reg areg w) (wordAt m (tptrLoc (priority w)) (insertStarted m w))
+
+-- the walk of a deletion comes again to a pointer value that it has passed (DECISIONS 27)
+abbrev pub DeletesInRing : List ℕ → Work → Type 0
+DeletesInRing m w = DeleteRing m (deleteStarted w) (wordAt m (tptrLoc (priority w)) (deleteStarted w))
+
+-- tin: the time is not past, and its insertion runs in a ring (000 1.11, timer input; DECISIONS 27)
+abbrev pub TinRing : List ℕ → Work → Type 0
+TinRing m w = (later (reg (clockReg (priority w)) w) (reg areg w) ≡ false) × InsertsInRing m (nextTime w)
+
+-- dist: its guard is true, the process is in the queue, and its deletion runs in a ring (000 1.11, disable timer; DECISIONS 27)
+abbrev pub DistRing : List ℕ → Work → Type 0
+DistRing m w = ((not (eqb (reg breg w) 0) && unmarked m w) ≡ true) × DeletesInRing m w

@@ -10,10 +10,8 @@ use Rattle.rules.specs.Tests.{pick}
 use Rattle.rules.specs.Operations.{Action, operations}
 use Rattle.rules.proofs.Tests.{cases-eq, cases-lt}
 use Rattle.laws.specs.Lists.{listed}
+use Rattle.laws.proofs.Calm.{never, and-false}
 use Rattle.refusals.specs.Conditions.{isBuilt}
-
-never : {A : Type 0} → _≡_ {A = Bool} false true → A
-never e = absurd (let z : _≡_ {A = ℕ} 0 1 = cc in omega arith)
 
 -- ---- below #5A: by computation
 
@@ -58,10 +56,6 @@ above (e ∷ t) h k l = go (ltb (e .0) 0x5A) refl h (above t)
         → pick (eqb k (e .0)) true (listed k t) ≡ false
     go true q z f = rw (ne-eqb k (e .0) (λ s. omega (arith, s, ltb-true (e .0) 0x5A q))) (f z k l)
     go false q z f = never z
-
-and-false : (b : Bool) → (b && false) ≡ false
-and-false true = refl
-and-false false = refl
 
 -- past a range, and past all five of them
 past : (a b k : ℕ) → b < k → (leb a k && leb k b) ≡ false

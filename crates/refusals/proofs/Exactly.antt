@@ -2,7 +2,7 @@
 use mathlib.Core.Path.{_≡_, refl, sym, ap, _∙_}
 use mathlib.Core.Bool.{Bool, true, false, _&&_, _||_, not}
 use mathlib.Core.List.{List, [], _∷_, _++_}
-use Prim.Native.Nat.{ℕ, _+_, _≤_, _<_}
+use Prim.Native.Nat.{ℕ, _+_, _<_}
 use native.Mathlib.Omega.{arith}
 use lib.Dec.{ltb, leb, eqb}
 use lib.Bits.{bitAnd}
@@ -11,7 +11,7 @@ use Rattle.rules.specs.Tests.{pick, ifLt, ifEq, ifSet}
 use borrow.Author.Tests.{le-leb, lt-leb, le-ltb, lt-ltb, eq-eqb, ne-eqb}
 use Rattle.rules.specs.Words.{index}
 use Rattle.rules.specs.Registers.{registers, pointerReg, countReg, channelReg, activeBit, heldBit, eventChannel, flagsReg, statusReg, oreg, idleFlag, haltedFlag, linkChans}
-use Rattle.rules.specs.Memory.{Store, touched, stores}
+use Rattle.rules.specs.Memory.{Store, touched}
 use Rattle.rules.specs.Work.{Work, begin, put, raise, lower, access, refuseAt, refuse, append, storeByte, kindLoad, kindStore}
 use Rattle.rules.specs.Timers.{timerReady}
 use Rattle.rules.specs.Channels.{requested}
@@ -19,8 +19,9 @@ use Rattle.rules.specs.Links as links
 use Rattle.rules.specs.Step as steps
 use Rattle.rules.specs.Calls as rules
 use Rattle.rules.specs.declared.Machine.{Machine}
-use Rattle.rules.proofs.Tests.{yes-lt, no-lt, yes-eq, no-eq, yes, no, by-bool, cases-eq, cases-lt, on-eq, on-lt, on-le, on-pick}
-use Rattle.refusals.specs.Conditions.{firstOf, frame, lastTooLong, pairOutside, nothingToUndo, isHalted, asked, isIdle, isUnlisted, isMoving, isHeld, takeNotReady, giveNotReady, pointerOutside, full, givePairs, stepPairs, tickNumbers, takeNumbers, giveNumbers, eventNumbers, undoNumbers, clearNumbers, freshNumbers, stepOutside, stops, stepNumbers}
+use Rattle.rules.proofs.Tests.{yes-lt, no-lt, yes-eq, no-eq, by-bool, cases-eq, cases-lt, on-eq, on-lt, on-le}
+use Rattle.refusals.specs.Conditions.{firstOf, frame, lastTooLong, pairOutside, isHalted, asked, isIdle, isUnlisted, isMoving, isHeld, takeNotReady, giveNotReady, pointerOutside, full, givePairs, stepPairs, tickNumbers, takeNumbers, giveNumbers, eventNumbers, undoNumbers, clearNumbers, freshNumbers, stepOutside, stops, stepNumbers}
+use Rattle.laws.proofs.Calm.{never}
 use Rattle.refusals.proofs.Own.{own-first}
 use Rattle.refusals.proofs.Stored.{no-pairs, tick-stored, take-stored, event-stored, give-pairs}
 
@@ -223,9 +224,6 @@ module _ (m : Machine) (mem j : List ℕ) where
 -- ---- step
 
 -- idle, and neither (a) nor (b) applies
-never : {P : Type 0} → _≡_ {A = Bool} false true → P
-never e = absurd (let z : _≡_ {A = ℕ} 0 1 = cc in omega arith)
-
 none-picked : (a b c : Bool) → (a || b || c) ≡ false → (x y z w : Work) → pick a x (pick b y (pick c z w)) ≡ w
 none-picked true b c h x y z w = never (sym h)
 none-picked false true c h x y z w = never (sym h)

@@ -3,3 +3,4 @@ pub mod Own
 pub mod Stored
 pub mod Exactly
 pub mod Outside
+pub mod Rings

@@ -1,17 +1,17 @@
 -- The answer of a step that is neither halted nor idle is 0, 9, 10 or 11; it is 9 exactly where the byte was fetched and makes an operation outside
 -- the built list, and 11 exactly where the step Stops at one of the places of DECISIONS 26. Assumes nothing.
-use mathlib.Core.Path.{_≡_, refl, sym, ap, subst, _∙_}
+use mathlib.Core.Path.{_≡_, refl, sym, subst, _∙_}
 use mathlib.Core.Logic.{_⊎_, inl, inr, ⊎-elim}
-use mathlib.Core.Bool.{Bool, true, false, _&&_, _||_, not}
+use mathlib.Core.Bool.{Bool, true, false, _&&_, not}
 use mathlib.Core.List.{List, [], _∷_}
-use Prim.Native.Nat.{ℕ, _+_, _/_, _^_, _≤_, _<_}
+use Prim.Native.Nat.{ℕ, _/_, _^_, _≤_, _<_}
 use native.Mathlib.Omega.{arith}
 use borrow.Author.Tests.{lt-ltb, le-ltb, eq-eqb, ne-eqb}
 use lib.Dec.{ltb, eqb}
 use lib.Bits.{bitAnd}
 use lib.ListN.{length, getD, set, length-set}
 use lib.Seq.{getD-set-same}
-use Rattle.rules.specs.Tests.{pick, ifLt, ifEq, look}
+use Rattle.rules.specs.Tests.{pick, ifLt, ifEq}
 use Rattle.rules.specs.Words.{index, atByte}
 use Rattle.rules.specs.Registers.{registers, iptrReg, oreg, flagsReg, idleFlag, linkChans}
 use Rattle.rules.specs.Work.{Work, begin, reg, put, refuseAt, refuse, byteAt, access, kindFetch, unlisted, outside, stop}
@@ -22,17 +22,16 @@ use Rattle.rules.specs.Operations.{operations, operate, function}
 use Rattle.rules.specs.Step.{fetched, execute, decode, instruction, instructionUnlessIdle, timersFirst, channelsFirst, choose}
 use Rattle.rules.proofs.Tests.{yes, yes-eq, no-eq, by-bool, cases-eq, cases-lt}
 use Rattle.laws.specs.Lists.{listed}
-use Rattle.laws.specs.Stops.{stopPlaces, nowhere, requestStops, timerStops}
 use Rattle.laws.proofs.Fine.{Fine, Turns, fine-put, fine-putCore, fine-access}
 use Rattle.laws.proofs.FineScheduling.{fine-actOnSNP}
 use Rattle.laws.proofs.FineTimers.{fine-handleTimerRequest}
 use Rattle.laws.proofs.FineChannels.{fine-handleChannelRequest}
 use Rattle.laws.proofs.FineOperations.{fine-operate, fine-direct, operate-unlisted, function-opr}
 use Rattle.laws.proofs.FineStep.{fine-fetched, fine-decode, fine-instruction}
-use Rattle.laws.proofs.Calm.{never, Answer, Is, Not, not-turns, not-fine, any-fine, refused-stays, same-number, same-stop, Tells, inside-same, outside-out}
+use Rattle.laws.proofs.Calm.{never, Answer, Not, not-turns, not-fine, any-fine, refused-stays, same-number, same-stop, Tells, inside-same, outside-out}
 use Rattle.laws.proofs.Stops.{Begun, request-stops, timer-stops, operate-stops}
 use Rattle.laws.proofs.Start.{place-fetched}
-use Rattle.refusals.specs.Conditions.{firstOf, asked, fetches, isIdle, isBuilt, nextByte, operates, nextCode, isUnlisted, operationStops, serviceStops, stops}
+use Rattle.refusals.specs.Conditions.{firstOf, fetches, isIdle, isBuilt, nextByte, operates, nextCode, isUnlisted, operationStops, serviceStops, stops}
 use Rattle.refusals.proofs.Built.{built-listed}
 
 module _ (r mem : List ℕ) where

@@ -1,18 +1,17 @@
 -- How many words tick, take, give and event store to: none; give one, where its byte is stored. So how many pairs their records have. Assumes nothing.
-use mathlib.Core.Path.{_≡_, refl, ap, _∙_}
-use mathlib.Core.Bool.{Bool, true, false}
+use mathlib.Core.Path.{_≡_, refl, _∙_}
+use mathlib.Core.Bool.{true}
 use mathlib.Core.List.{List, [], _∷_}
-use Prim.Native.Nat.{ℕ, _≤_, _<_}
-use native.Mathlib.Omega.{arith}
+use Prim.Native.Nat.{ℕ, _<_}
 use lib.Bits.{bitAnd}
 use lib.ListN.{length, getD}
-use Rattle.rules.specs.Tests.{pick, ifEq, ifSet}
+use Rattle.rules.specs.Tests.{ifSet}
 use Rattle.rules.specs.Words.{index, selector, withByte}
 use Rattle.rules.specs.Registers.{pointerReg, countReg, channelReg, activeBit, heldBit, eventChannel}
 use Rattle.rules.specs.Memory.{Store, word, touched}
 use Rattle.rules.specs.Work.{Work, begin, put, raise, lower, access, refuseAt, refuse, append, storeByte, wordAt, kindStore}
 use Rattle.rules.specs.Links as links
-use Rattle.rules.proofs.Tests.{yes-lt, no-lt, yes-eq, no-eq, cases-eq, cases-lt, on-eq, on-lt, on-le}
+use Rattle.rules.proofs.Tests.{yes-eq, no-eq, cases-eq, on-eq, on-lt, on-le}
 use Rattle.laws.proofs.Calm.{inside-same}
 use Rattle.laws.proofs.Single.{touched-none, touched-one}
 use Rattle.refusals.specs.Conditions.{isMoving, givePairs}

@@ -6,10 +6,10 @@ use mathlib.Core.List.{List, [], _∷_}
 use lib.Dec.{ltb, leb, eqb}
 use lib.ListN.{length, getD}
 use Rattle.rules.specs.Tests.{pick, ifLt, ifEq, ifSet, look}
-use Rattle.rules.specs.Registers.{iptrReg, oreg, statusReg, flagsReg, pointerReg, countReg, channelReg, haltedFlag, idleFlag, activeBit, heldBit, linkChans, eventChannel}
+use Rattle.rules.specs.Registers.{iptrReg, oreg, flagsReg, pointerReg, countReg, channelReg, haltedFlag, idleFlag, activeBit, heldBit, linkChans, eventChannel}
 use Rattle.rules.specs.Words.{index, withNibble}
 use Rattle.rules.specs.Memory.{touched}
-use Rattle.rules.specs.Work.{Work, begin, byteAt}
+use Rattle.rules.specs.Work.{begin, byteAt}
 use Rattle.rules.specs.Timers.{timerReady}
 use Rattle.rules.specs.Channels.{requested}
 use Rattle.rules.specs.Journal.{recordLength, frameBad, lastPairs, lastStart, pairsAt, strays}
