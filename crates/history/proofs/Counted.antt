@@ -1,8 +1,8 @@
 -- Depth and used are counted, not invented: an accepted step, tick, take, give or event adds one to depth, and to used the length of its record, 46
 -- words and two for each memory word stored to; an accepted undo takes one from depth, and the last record's length from used; an accepted fresh or
 -- clear leaves both 0. Assumes nothing.
-use mathlib.Core.Path.{_≡_, refl, sym, ap, subst, _∙_}
-use mathlib.Core.Bool.{Bool, true, false}
+use mathlib.Core.Path.{_≡_, refl, sym, subst}
+use mathlib.Core.Bool.{Bool}
 use mathlib.Core.List.{List}
 use Prim.Native.Nat.{ℕ, _+_, _-_}
 use native.Mathlib.Omega.{arith}
@@ -10,7 +10,7 @@ use lib.ListN.{length}
 use Rattle.rules.specs.Memory.{touched}
 use Rattle.rules.specs.Work.{Work}
 use Rattle.rules.specs.Journal.{recordLength, frameBad, lastPairs, lastStart, pairsAt, strays}
-use Rattle.rules.specs.Calls.{Outcome, outcomeOf, sizeBad, codeBad, notOutput, notInput, recorded, settled, checked, undone, undoLast}
+use Rattle.rules.specs.Calls.{Outcome, outcomeOf, sizeBad, codeBad, recorded, settled, checked, undone, undoLast}
 use Rattle.rules.specs.Calls as rules
 use Rattle.rules.specs.declared.Machine.{Machine}
 use Rattle.rules.specs.declared.Reply.{Reply}

@@ -3,21 +3,19 @@
 use mathlib.Core.Path.{_≡_, sym, ap, subst, _∙_}
 use mathlib.Core.List.{List, [], _∷_}
 use Prim.Native.Nat.{ℕ, _≤_}
-use lib.ListN.{length, drop, replicate}
-use Rattle.rules.specs.Calls.{Outcome, outcomeOf}
+use lib.ListN.{length, replicate}
+use Rattle.rules.specs.Calls.{Outcome}
 use Rattle.rules.specs.Calls as rules
-use Rattle.rules.specs.declared.Machine.{Machine}
 use Rattle.laws.proofs.Calls.{kept-step, kept-tick, kept-take, kept-give, kept-event, kept-undo, kept-clear, kept-fresh}
 use Rattle.history.specs.Machine.{Act, call, undo, inOrder}
-use Rattle.history.specs.T414.{Call, step, tick, give, event, Whole, perform, after, run, standing, shown}
+use Rattle.history.specs.T414.{Call, step, tick, give, event, Whole, after, run, standing, shown}
 use Rattle.history.specs.T414 as calls
 use Rattle.history.specs.Contracts.{FreshContract}
-use Rattle.history.specs.Chain.{Met, Chain, ended, stands}
+use Rattle.history.specs.Chain.{Met, Chain, ended}
 use Rattle.history.specs.Chain as chains
-use Rattle.history.specs.Functions.{Result, Functions, MeetContracts, handsOn, made, ran, answers, stood, GivenBack, HistoryHolds, Reversible}
+use Rattle.history.specs.Functions.{Result, Functions, MeetContracts, handsOn, made, ran, answers, stood, GivenBack, Reversible}
 use Rattle.history.proofs.Unique.{replyOf, told}
 use Rattle.history.proofs.Calls.{Whole45, kept}
-use Rattle.history.proofs.T414.{Emptied}
 use Rattle.history.proofs.Public.{met-is, chain-run, chain-stands, fresh-empties, public-history, public-records, public-undone}
 
 -- ---- functions that meet the contracts

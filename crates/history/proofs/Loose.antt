@@ -16,9 +16,9 @@ use Rattle.laws.specs.Answers.{answerOf}
 use Rattle.laws.specs.Calls.{Kept}
 use Rattle.laws.proofs.Unique.{number-answer}
 use Rattle.laws.proofs.Calls.{kept-step, kept-tick, kept-take, kept-give, kept-event, kept-undo, kept-clear, kept-fresh}
-use Rattle.history.specs.Contracts.{FreshContract, StepContract, TickContract, TakeContract, GiveContract, EventContract, UndoContract, ClearContract, Same}
+use Rattle.history.specs.Contracts.{FreshContract, StepContract, TickContract, TakeContract, GiveContract, EventContract, UndoContract, ClearContract}
 use Rattle.history.specs.Functions.{Result}
-use Rattle.history.specs.Loose.{TwoResults, AllNeeded}
+use Rattle.history.specs.Loose.{AllNeeded}
 use Rattle.history.proofs.Unique.{replyOf, told}
 use Rattle.history.proofs.Functions.{resultOf}
 

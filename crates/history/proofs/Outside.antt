@@ -7,7 +7,7 @@ use lib.ListN.{length}
 use Rattle.rules.specs.Registers.{registers}
 use Rattle.rules.specs.Work.{begin, outside}
 use Rattle.rules.specs.Step as steps
-use Rattle.rules.specs.Calls.{Outcome, outcomeOf}
+use Rattle.rules.specs.Calls.{Outcome}
 use Rattle.rules.specs.Calls as rules
 use Rattle.rules.specs.declared.Machine.{Machine}
 use Rattle.rules.specs.declared.Reply.{Reply}

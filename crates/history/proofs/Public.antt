@@ -1,13 +1,11 @@
 -- THE HISTORY, over chains of the public functions' contracts (01, demand 3): from any fresh machine and any list of steps, ticks, takes, gives,
 -- events and undos, some refused, each handed what the one before left. By the history theorem of the rules (crate history). Assumes nothing.
 use mathlib.Core.Path.{_≡_, refl, sym, ap, subst, _∙_}
-use mathlib.Core.Bool.{Bool, true, false}
 use mathlib.Core.List.{List, [], _∷_, _++_}
 use Prim.Native.Nat.{ℕ, zero, suc, _+_, _-_, _≤_}
 use native.Mathlib.Omega.{arith}
 use lib.Dec.{eqb}
 use lib.ListN.{length, drop, replicate, length-drop}
-use Rattle.rules.specs.Tests.{ifEq}
 use Rattle.rules.specs.Calls.{Outcome, outcomeOf}
 use Rattle.rules.specs.declared.Reply.{Reply}
 use Rattle.rules.proofs.Tests.{yes-eq, no-eq, cases-eq}

@@ -21,7 +21,7 @@ use Rattle.laws.proofs.FineLinks.{fine-tick, fine-take, fine-give, fine-event}
 use Rattle.laws.proofs.FineStep.{fine-step}
 use Rattle.laws.proofs.Stores.{length-stores}
 use Rattle.laws.proofs.Touched.{touched-below, outside-touched, length-record}
-use Rattle.history.specs.Machine.{refused, accepted, Act, call, undo, Laws}
+use Rattle.history.specs.Machine.{refused, accepted, Act, call, Laws}
 use Rattle.history.specs.T414.{Call, step, tick, give, event, Plain, work, byteOf, places, effect, badChannel, guard, unrecord, t414}
 use Rattle.history.specs.T414 as spec
 use Rattle.history.proofs.Records.{strays-none, written-back, last-pairs, last-start, last-regs, last-read}

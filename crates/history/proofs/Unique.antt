@@ -1,6 +1,6 @@
 -- One answer only: two results that meet the contract of a public function from the same inputs are the same in answer, byte, registers, depth,
 -- used and every lent word. And some result meets it. Assumes nothing.
-use mathlib.Core.Path.{_≡_, sym, ap, _∙_}
+use mathlib.Core.Path.{_≡_, ap}
 use mathlib.Core.List.{List}
 use Prim.Native.Nat.{ℕ, _≤_}
 use lib.ListN.{length}
@@ -12,7 +12,7 @@ use Rattle.rules.specs.declared.Reply.{Reply}
 use Rattle.laws.specs.Answers.{answerOf}
 use Rattle.laws.proofs.Unique.{one-outcome, number-answer}
 use Rattle.laws.proofs.Calls.{kept-step, kept-tick, kept-take, kept-give, kept-event, kept-undo, kept-clear, kept-fresh}
-use Rattle.history.specs.Contracts.{FreshContract, StepContract, TickContract, TakeContract, GiveContract, EventContract, UndoContract, ClearContract, Same, OneAnswer, Answered, Total}
+use Rattle.history.specs.Contracts.{FreshContract, StepContract, TickContract, TakeContract, GiveContract, EventContract, UndoContract, ClearContract, Same, OneAnswer, Total}
 
 pub same : (o : Outcome) (r r′ : Reply) (mem mem′ j j′ : List ℕ) → outcomeOf r mem j ≡ o → outcomeOf r′ mem′ j′ ≡ o → Same r r′ mem mem′ j j′
 same o r r′ mem mem′ j j′ a b =

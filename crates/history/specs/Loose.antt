@@ -6,7 +6,6 @@ use Prim.Native.Nat.{ℕ}
 use lib.ListN.{length}
 use Rattle.rules.specs.Calls.{machineOf}
 use Rattle.rules.specs.declared.Answer.{Answer}
-use Rattle.rules.specs.declared.Reply.{Reply}
 use Rattle.history.specs.Contracts.{Contract, Same}
 use Rattle.history.specs.Functions.{Result}
 

@@ -1,7 +1,6 @@
 -- 01's wrong functions, as properties of a function: refusing always, one fixed answer, leaving the machine as it was, an undo that does nothing,
 -- the first step properly and then only moving Iptr, an invented depth or used (01, What the contracts have to say).
 use mathlib.Core.Path.{_≡_}
-use mathlib.Core.List.{List}
 use Prim.Native.Nat.{ℕ}
 use lib.ListN.{getD}
 use Rattle.rules.specs.Registers.{iptrReg}

@@ -1,40 +1,40 @@
 -- The parts that all work is made of, in a memory m and in m with words x appended: what comes of both is alike. Assumes that m has less than 2 ^ 30 words
 -- where bytes are moved, so that no move inside it wraps.
-use mathlib.Core.Path.{_≡_, refl, sym, ap, subst, _∙_}
+use mathlib.Core.Path.{_≡_, refl, sym, subst, _∙_}
 use mathlib.Core.Bool.{Bool, true, false}
-use mathlib.Core.List.{List, [], _∷_, _++_}
-use Prim.Native.Nat.{ℕ, zero, suc, _+_, _*_, _/_, _^_, _≤_, _<_}
+use mathlib.Core.List.{List, [], _++_}
+use Prim.Native.Nat.{ℕ, zero, suc, _+_, _*_, _^_, _≤_, _<_}
 use native.Mathlib.Omega.{arith}
 use lib.Dec.{ltb, leb, eqb}
-use lib.ListN.{length, getD, length-append, length-set}
+use lib.ListN.{length, length-append}
 use Rattle.rules.specs.Tests.{pick, ifLt, ifLe, ifEq}
-use Rattle.rules.specs.Words.{index, offset, selector, atByte, atWord, byteOf, withByte}
+use Rattle.rules.specs.Words.{index, offset, selector, atByte, atWord, withByte}
 use Rattle.rules.specs.Registers.{registers}
-use Rattle.rules.specs.Memory.{Store, word, bytes, stores}
-use Rattle.rules.specs.Work.{Work, put, raise, lower, gotoSNP, putCore, putSystem, putBoth, outside, stop, kindFetch, kindLoad, kindStore, refuseAt, refuse, append, attempted, wordAt, byteAt, access, readWord, readByte, storeWord, storeByte, rIndexWord, rIndexByte, wIndexWord, moveOutside, settleMove, transfer}
+use Rattle.rules.specs.Memory.{Store, word, bytes}
+use Rattle.rules.specs.Work.{Work, put, raise, lower, gotoSNP, putCore, putSystem, putBoth, outside, stop, kindFetch, kindLoad, kindStore, refuseAt, refuse, append, attempted, wordAt, byteAt, access, readWord, storeWord, storeByte, rIndexWord, rIndexByte, wIndexWord, moveOutside, settleMove, transfer}
 use Rattle.rules.specs.declared.Core.{Core}
 use Rattle.rules.specs.declared.System.{System}
 use Rattle.rules.specs.declared.Attempt.{Attempt}
 use Rattle.rules.specs.declared.Both.{Both}
 use Rattle.rules.proofs.Tests.{yes-lt, no-lt, yes-eq, no-eq, cases-lt, cases-eq}
-use Rattle.laws.specs.Alike.{StoreInside, Inside, Witness, Unrefused, Alike, beyond, refused, same}
-use Rattle.laws.proofs.Fine.{Fine, Turns, fine-put, fine-raise, fine-lower, fine-gotoSNP, fine-putCore, fine-putSystem, fine-putBoth, fine-refuseAt, fine-refuse, fine-append, fine-attempted, fine-access, fine-storeWord, fine-storeByte, fine-rIndexWord, fine-rIndexByte, fine-wIndexWord, fine-settleMove, fine-transfer}
+use Rattle.laws.specs.Alike.{StoreInside, Witness, Unrefused, Alike, beyond, refused, same}
+use Rattle.laws.proofs.Fine.{Fine, Turns, fine-put, fine-raise, fine-lower, fine-putCore, fine-putSystem, fine-refuse, fine-append, fine-storeByte, fine-rIndexWord, fine-rIndexByte, fine-wIndexWord, fine-transfer}
 use Rattle.laws.proofs.Calm.{any-fine, inside-same}
 use Rattle.laws.proofs.Appended.{word-appended, inside-snoc}
 
 -- ---- a refusal that came first stays, with the kind and address of its access
 
-abbrev pub Is : ℕ → ℕ → ℕ → ℕ → ℕ → ℕ → Type 0
-Is n k a number kind address = (number ≡ n) × (kind ≡ k) × (address ≡ a)
+abbrev pub AnswerIs : ℕ → ℕ → ℕ → ℕ → ℕ → ℕ → Type 0
+AnswerIs n k a number kind address = (number ≡ n) × (kind ≡ k) × (address ≡ a)
 
 -- what is done in any memory keeps it
 abbrev pub Stays : (List ℕ → Work → Work) → Type 0
-Stays g = (mem : List ℕ) (n k a : ℕ) → ((number : ℕ) → Turns (Is n k a) number) → (w : Work) → Fine (Is n k a) w → Fine (Is n k a) (g mem w)
+Stays g = (mem : List ℕ) (n k a : ℕ) → ((number : ℕ) → Turns (AnswerIs n k a) number) → (w : Work) → Fine (AnswerIs n k a) w → Fine (AnswerIs n k a) (g mem w)
 
-pub never-turns : (n k a : ℕ) → (n ≡ 0 → ⊥) → (number : ℕ) → Turns (Is n k a) number
+pub never-turns : (n k a : ℕ) → (n ≡ 0 → ⊥) → (number : ℕ) → Turns (AnswerIs n k a) number
 never-turns n k a h number k′ a′ z kind address = absurd (h (sym (z .0)))
 
-pub as-is : (w : Work) → (w .answer ≡ 0 → ⊥) → length (w .regs) ≡ registers → Fine (Is (w .answer) (w .kind) (w .address)) w
+pub as-is : (w : Work) → (w .answer ≡ 0 → ⊥) → length (w .regs) ≡ registers → Fine (AnswerIs (w .answer) (w .kind) (w .address)) w
 as-is w h c = record { count = c; known = (refl, refl, refl); ten = never-turns (w .answer) (w .kind) (w .address) h outside }
 
 pub refused-with : (number : ℕ) (w : Work) → w .answer ≡ 0 → refuse number w .answer ≡ number
@@ -160,7 +160,7 @@ module _ (m x : List ℕ) where
   unfolding refuseAt
   lost g s kind a low high h w v′ u =
       let e : refuseAt outside kind a w ≡ record { regs = w .regs; stored = w .stored; answer = outside; kind = kind; address = a } = rw (yes-eq (u .none)) in
-      let f = s m outside kind a (never-turns outside kind a (λ z. omega (arith, z))) _ (subst (Fine (Is outside kind a)) (sym e) (record { count = u .count; known = (refl, refl, refl); ten = never-turns outside kind a (λ z. omega (arith, z)) outside })) in
+      let f = s m outside kind a (never-turns outside kind a (λ z. omega (arith, z))) _ (subst (Fine (AnswerIs outside kind a)) (sym e) (record { count = u .count; known = (refl, refl, refl); ten = never-turns outside kind a (λ z. omega (arith, z)) outside })) in
       beyond (f .known .0) (f .count) (record { least = rw (f .known .1) low; most = rw (f .known .1) high; beyond = rw (f .known .2) h })
 
   outside-refused : (kind a : ℕ) (w : Work) → length m ≤ index a → access m kind a w ≡ refuseAt outside kind a w

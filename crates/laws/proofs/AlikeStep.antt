@@ -2,16 +2,19 @@
 -- second answers the same number, and where that is 0, its registers and stores are the same. So no access outside memory is made up for. Assumes nothing.
 use mathlib.Core.Path.{_≡_, refl}
 use mathlib.Core.List.{List, [], _++_}
-use Prim.Native.Nat.{ℕ, _/_, _^_, _<_}
+use Prim.Native.Nat.{ℕ, _/_, _^_, _≤_, _<_}
 use native.Mathlib.Omega.{arith}
-use lib.ListN.{length}
+use lib.ListN.{length, getD}
+use Rattle.rules.specs.Words.{index}
 use Rattle.rules.specs.Registers.{registers, iptrReg}
-use Rattle.rules.specs.Work.{Work, begin, reg, byteAt, kindFetch, halted, idle, stop, unlisted}
+use Rattle.rules.specs.Work.{Work, begin, reg, byteAt, kindFetch, outside, halted, idle, stop, unlisted, refuseAt, access}
 use Rattle.rules.specs.Timers.{timerReady}
 use Rattle.rules.specs.Step.{haltIfAsked, haltOnError, fetched, execute, decode, instruction, instructionUnlessIdle, timersFirst, channelsFirst, choose, step}
-use Rattle.laws.specs.Alike.{Alike, Unrefused}
-use Rattle.laws.proofs.FineStep.{fine-haltIfAsked, fine-haltOnError, fine-fetched, fine-execute, fine-decode, fine-instruction, fine-instructionUnlessIdle, fine-timersFirst, fine-channelsFirst, fine-choose, fine-step}
-use Rattle.laws.proofs.Alike.{self, lift, both-pick, both-lt, both-eq, access-then, same-byte, alike-put, alike-raise, alike-putCore, alike-refuse}
+use Rattle.rules.proofs.Tests.{yes-eq, no-lt}
+use Rattle.laws.specs.Alike.{Alike}
+use Rattle.laws.proofs.Fine.{Fine, Turns}
+use Rattle.laws.proofs.FineStep.{fine-haltIfAsked, fine-haltOnError, fine-fetched, fine-decode, fine-instruction, fine-instructionUnlessIdle, fine-timersFirst, fine-channelsFirst, fine-choose, fine-step}
+use Rattle.laws.proofs.Alike.{AnswerIs, never-turns, self, lift, both-pick, both-lt, both-eq, access-then, same-byte, alike-put, alike-raise, alike-putCore, alike-refuse}
 use Rattle.laws.proofs.AlikeScheduling.{alike-actOnSNP}
 use Rattle.laws.proofs.AlikeTimers.{alike-handleTimerRequest}
 use Rattle.laws.proofs.AlikeChannels.{alike-handleChannelRequest}
@@ -90,3 +93,18 @@ module _ (m x : List ℕ) (small : length m < 2 ^ 30) where
   -- of a machine of 45 registers
   pub step-alike : (r : List ℕ) → length r ≡ registers → Alike (length m) (step m (begin r)) (step (m ++ x) (begin r))
   step-alike r h = alike-step (self (record { none = refl; inside = tt; count = h }))
+
+-- ---- a fetch outside memory is refused with 10, of a fetch at Iptr
+
+abbrev pub FetchRefused : List ℕ → Work → Type 0
+FetchRefused r w = Fine (AnswerIs outside kindFetch (getD r iptrReg 0)) w
+
+pub fetch-refused : (r mem : List ℕ) → length r ≡ registers → length mem ≤ index (getD r iptrReg 0) → FetchRefused r (instruction mem (begin r))
+unfolding instruction access refuseAt
+fetch-refused r mem h o = fine-decode mem _ (turns stop) (turns unlisted) (fine-fetched _ lost)
+  where
+    turns : (number : ℕ) → Turns (AnswerIs outside kindFetch (getD r iptrReg 0)) number
+    turns = never-turns outside kindFetch (getD r iptrReg 0) (λ z. omega (arith, z))
+
+    lost : FetchRefused r (access mem kindFetch (getD r iptrReg 0) (begin r))
+    lost = rw (no-lt o, yes-eq {a = 0} {b = 0} refl) (record { count = h; known = (refl, refl, refl); ten = turns outside })

@@ -13,7 +13,7 @@ use Rattle.laws.proofs.InsertRing.{insert-goes, insert-ring}
 use Rattle.laws.proofs.DeleteRing.{delete-goes, delete-ring}
 use Rattle.rules.specs.Words.{atWord, index, later}
 use Rattle.rules.specs.Registers.{areg, breg, clockReg, creg, registers}
-use Rattle.rules.specs.Work.{kindLoad, outside, priority, readWord, reg, stop, wordAt, Work, wptr}
+use Rattle.rules.specs.Work.{kindLoad, priority, readWord, reg, stop, wordAt, Work, wptr}
 use Rattle.rules.specs.Scheduling.{notProcess, timeS, tlinkS}
 use Rattle.rules.specs.Timers.{deleteFinalStep, deleteFirstStep, deleteLink, deleteNext, deleteWalk, dist, distLink, distReady, distSet, dropB, enbt, enbtEarlier, enbtFirst, enbtGuard, enbtLink, handleTimerRequest, insertFinalStep, insertFirstStep, insertLink, insertNext, insertWalk, isThisSelectedProcess, nextTime, selectFirst, setNext, talt, taltwt, taltwtLink, taltwtState, taltwtTime, timedOut, timeNow, timerFront, timerNext, timerServe, timerStatus, timerUnlink, timerWake, tin}
 use Rattle.laws.specs.Alike.{Alike, Unrefused, refused}

@@ -1,15 +1,13 @@
 -- A memory with words appended: stores inside the shorter one change it alike, touch the same words and record the same. Assumes nothing.
-use mathlib.Core.Path.{_≡_, refl, sym, ap, _∙_}
-use mathlib.Core.Bool.{Bool, true, false, _&&_}
+use mathlib.Core.Path.{_≡_, refl}
+use mathlib.Core.Bool.{true, false}
 use mathlib.Core.List.{List, [], _∷_, _++_}
 use Prim.Native.Nat.{ℕ, zero, suc, _+_, _-_, _*_, _/_, _%_, _≤_, _<_}
 use native.Mathlib.Omega.{arith}
 use borrow.Author.Tests.{le-leb, ne-eqb}
-use lib.Dec.{leb, eqb}
-use lib.ListN.{length, getD, set, length-append, List·getD-append}
+use lib.ListN.{length, getD, length-append, List·getD-append}
 use lib.Seq.{set-append-left}
-use Rattle.rules.specs.Tests.{pick}
-use Rattle.rules.specs.Words.{byteOf, withByte}
+use Rattle.rules.specs.Words.{withByte}
 use Rattle.rules.specs.Memory.{Store, word, bytes, byteIn, setByteIn, moved, within, storing, stores, covers, touches, hit, touchedFrom, touched}
 use Rattle.rules.specs.Journal.{olds, recordOf}
 use Rattle.laws.specs.Alike.{StoreInside, Inside}

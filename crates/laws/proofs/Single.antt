@@ -1,16 +1,13 @@
 -- The words that no store, or one, touches. Assumes nothing.
-use mathlib.Core.Path.{_≡_, refl, sym, ap, _∙_}
-use mathlib.Core.Bool.{Bool, true, false}
-use mathlib.Core.List.{List, [], _∷_, _++_}
+use mathlib.Core.Path.{_≡_, refl, sym, ap}
+use mathlib.Core.List.{List, [], _∷_}
 use Prim.Native.Nat.{ℕ, zero, suc, _+_, _≤_, _<_}
 use native.Mathlib.Omega.{arith}
-use lib.Dec.{eqb}
 use lib.ListN.{length, set}
 use lib.Seq.{set-out}
 use borrow.Author.Tests.{eq-eqb, ne-eqb}
-use Rattle.rules.specs.Tests.{pick}
-use Rattle.rules.specs.Memory.{Store, word, touches, hit, touchedFrom, touched, stores, storing}
-use Rattle.rules.proofs.Tests.{cases-lt, cases-eq}
+use Rattle.rules.specs.Memory.{word, touches, hit, touchedFrom, touched, stores, storing}
+use Rattle.rules.proofs.Tests.{cases-eq}
 
 module _ (size : ℕ) where
   none-from : (n b : ℕ) → touchedFrom size b n [] ≡ []

@@ -1,35 +1,33 @@
 -- 10 Outside of a step, without circling back to the step's own answer: it comes with the access that was refused, whose address is outside memory; a fetch
 -- outside is refused so; and a step that does not answer 10 does the same in a memory with any words appended, so that no access outside was made up for.
 -- Of a machine of 45 registers.
-use mathlib.Core.Path.{_≡_, refl, sym, ap, subst, _∙_}
+use mathlib.Core.Path.{_≡_, refl, sym, _∙_}
 use mathlib.Core.Bool.{Bool, true, false, _||_}
-use mathlib.Core.List.{List, [], _∷_, _++_}
-use Prim.Native.Nat.{ℕ, _+_, _/_, _^_, _≤_, _<_}
+use mathlib.Core.List.{List, [], _++_}
+use Prim.Native.Nat.{ℕ, _+_, _^_, _≤_, _<_}
 use native.Mathlib.Omega.{arith}
-use borrow.Author.Tests.{lt-ltb, le-ltb, ltb-false}
+use borrow.Author.Tests.{le-ltb, ltb-false}
 use lib.Bits.{bitAnd}
 use lib.Dec.{ltb}
 use lib.ListN.{length, getD, length-append}
 use lib.Seq.{sets}
-use Rattle.rules.specs.Tests.{pick, ifLt, ifEq}
+use Rattle.rules.specs.Tests.{pick, ifLt}
 use Rattle.rules.specs.Words.{index}
 use Rattle.rules.specs.Registers.{registers, iptrReg, flagsReg, haltedFlag}
-use Rattle.rules.specs.Work.{Work, begin, outside, stop, unlisted, kindFetch, refuseAt, access}
+use Rattle.rules.specs.Work.{Work, begin, outside, kindFetch}
 use Rattle.rules.specs.Memory.{touched, stores}
 use Rattle.rules.specs.Journal.{recordLength, recordOf, frameBad}
 use Rattle.rules.specs.Step as steps
 use Rattle.rules.specs.Calls.{Outcome, refused, memoryBad, journalBad, sizeBad, recorded, settled, checked}
 use Rattle.rules.specs.Calls as rules
 use Rattle.rules.specs.declared.Machine.{Machine}
-use Rattle.rules.proofs.Tests.{yes-eq, no-eq, no-lt, by-bool, cases-eq, cases-lt}
-use Rattle.laws.specs.Alike.{Witness, Unrefused, Alike}
+use Rattle.rules.proofs.Tests.{yes-eq, no-eq, cases-eq}
+use Rattle.laws.specs.Alike.{Witness, Alike}
 use Rattle.laws.specs.Alike as alike
-use Rattle.laws.proofs.Fine.{Fine, Turns}
-use Rattle.laws.proofs.FineStep.{fine-fetched, fine-decode, fine-haltOnError}
-use Rattle.laws.proofs.Alike.{Is, never-turns}
+use Rattle.laws.proofs.FineStep.{fine-haltOnError}
 use Rattle.laws.proofs.Calm.{never}
 use Rattle.laws.proofs.Appended.{stores-appended, touched-appended, record-appended}
-use Rattle.laws.proofs.AlikeStep.{step-alike}
+use Rattle.laws.proofs.AlikeStep.{step-alike, FetchRefused, fetch-refused}
 use Rattle.refusals.specs.Conditions.{frame, isHalted, isIdle, fetches}
 use Rattle.refusals.specs.Outside.{appended}
 use Rattle.refusals.proofs.Own.{by-choice}
@@ -144,27 +142,13 @@ module _ (m : Machine) (mem x j : List ℕ) where
 
 -- ---- THE FETCH: where (c) applies and Iptr is outside memory, the answer is 10, of a fetch there
 
--- the refusal of a fetch at Iptr
-abbrev FetchRefused : List ℕ → Work → Type 0
-FetchRefused r w = Fine (Is outside kindFetch (getD r iptrReg 0)) w
-
 module _ (r mem : List ℕ) (h : length r ≡ registers) (o : length mem ≤ index (getD r iptrReg 0)) where
-  fetch-lost : FetchRefused r (steps.instruction mem (begin r))
-  unfolding steps.instruction access refuseAt
-  fetch-lost = fine-decode mem _ (turns stop) (turns unlisted) (fine-fetched _ lost)
-    where
-      turns : (number : ℕ) → Turns (Is outside kindFetch (getD r iptrReg 0)) number
-      turns = never-turns outside kindFetch (getD r iptrReg 0) (λ z. omega (arith, z))
-
-      lost : FetchRefused r (access mem kindFetch (getD r iptrReg 0) (begin r))
-      lost = rw (no-lt o, yes-eq {a = 0} {b = 0} refl) (record { count = h; known = (refl, refl, refl); ten = turns outside })
-
   step-lost : isHalted r ≡ false → isIdle r ≡ false → fetches r ≡ true → FetchRefused r (steps.step mem (begin r))
   unfolding steps.step
   step-lost k i f =
       cases-eq (bitAnd (getD r flagsReg 0) haltedFlag) 0
       (λ e. rw (yes-eq e)
-      (fine-haltOnError _ (by-choice r mem (FetchRefused r) i (λ z a. never (sym z ∙ f)) (λ z a b. never (sym z ∙ f)) (λ z a b. never (sym z ∙ f)) (λ z. fetch-lost))))
+      (fine-haltOnError _ (by-choice r mem (FetchRefused r) i (λ z a. never (sym z ∙ f)) (λ z a b. never (sym z ∙ f)) (λ z a b. never (sym z ∙ f)) (λ z. fetch-refused r mem h o))))
       (λ e. never (sym k ∙ rw (no-eq e)))
 
 pub step-fetch-outside : (m : Machine) (mem j : List ℕ) → length (m .regs) ≡ registers

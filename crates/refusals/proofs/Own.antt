@@ -14,7 +14,7 @@ use lib.Seq.{getD-set-same}
 use Rattle.rules.specs.Tests.{pick, ifLt, ifEq}
 use Rattle.rules.specs.Words.{index, atByte}
 use Rattle.rules.specs.Registers.{registers, iptrReg, oreg, flagsReg, idleFlag, linkChans}
-use Rattle.rules.specs.Work.{Work, begin, reg, put, refuseAt, refuse, byteAt, access, kindFetch, unlisted, outside, stop}
+use Rattle.rules.specs.Work.{Work, begin, reg, put, refuseAt, refuse, byteAt, kindFetch, outside, stop}
 use Rattle.rules.specs.Scheduling.{actOnSNP}
 use Rattle.rules.specs.Timers.{timerReady, handleTimerRequest}
 use Rattle.rules.specs.Channels.{requested, handleChannelRequest}
@@ -22,15 +22,16 @@ use Rattle.rules.specs.Operations.{operations, operate, function}
 use Rattle.rules.specs.Step.{fetched, execute, decode, instruction, instructionUnlessIdle, timersFirst, channelsFirst, choose}
 use Rattle.rules.proofs.Tests.{yes, yes-eq, no-eq, by-bool, cases-eq, cases-lt}
 use Rattle.laws.specs.Lists.{listed}
-use Rattle.laws.proofs.Fine.{Fine, Turns, fine-put, fine-putCore, fine-access}
+use Rattle.laws.proofs.Fine.{Fine, Turns, fine-put, fine-putCore}
 use Rattle.laws.proofs.FineScheduling.{fine-actOnSNP}
 use Rattle.laws.proofs.FineTimers.{fine-handleTimerRequest}
 use Rattle.laws.proofs.FineChannels.{fine-handleChannelRequest}
 use Rattle.laws.proofs.FineOperations.{fine-operate, fine-direct, operate-unlisted, function-opr}
-use Rattle.laws.proofs.FineStep.{fine-fetched, fine-decode, fine-instruction}
-use Rattle.laws.proofs.Calm.{never, Answer, Not, not-turns, not-fine, any-fine, refused-stays, same-number, same-stop, Tells, inside-same, outside-out}
+use Rattle.laws.proofs.FineStep.{fine-fetched, fine-instruction}
+use Rattle.laws.proofs.Calm.{never, Answer, Not, not-turns, not-fine, any-fine, same-number, same-stop, Tells, inside-same}
 use Rattle.laws.proofs.Stops.{Begun, request-stops, timer-stops, operate-stops}
 use Rattle.laws.proofs.Start.{place-fetched}
+use Rattle.laws.proofs.AlikeStep.{fetch-refused}
 use Rattle.refusals.specs.Conditions.{firstOf, fetches, isIdle, isBuilt, nextByte, operates, nextCode, isUnlisted, operationStops, serviceStops, stops}
 use Rattle.refusals.proofs.Built.{built-listed}
 
@@ -89,13 +90,6 @@ module _ (r mem : List ℕ) (h : length r ≡ registers) where
       fine = record { count = h; known = inl refl; ten = turns 10 (omega arith) (omega arith) }
 
   -- ---- the fetch
-
-  -- outside memory, the answer is 10
-  pub fetch-outside : length mem ≤ index (getD r iptrReg 0) → instruction mem (begin r) .answer ≡ outside
-  unfolding instruction
-  fetch-outside b =
-      refused-stays outside (access mem kindFetch (getD r iptrReg 0) (begin r)) _ (fine-access mem kindFetch (getD r iptrReg 0) (any-fine (begin r) h) .count) (λ z. omega (arith, z)) (outside-out mem kindFetch (getD r iptrReg 0) (begin r) b refl .is)
-      (λ P t f. fine-decode mem _ (t stop) (t unlisted) (fine-fetched _ f))
 
   abbrev afterFetch : Work
   afterFetch = fetched (nextByte r mem) (begin r)
@@ -158,7 +152,7 @@ module _ (r mem : List ℕ) (h : length r ≡ registers) where
     told-instruction =
         cases-lt (index (getD r iptrReg 0)) (length mem)
         (λ b. rw (inside-same mem kindFetch (getD r iptrReg 0) (begin r) b) (told-inside b))
-        (λ b. told-not (instruction mem (begin r) .answer) (rw (f, le-ltb (index (getD r iptrReg 0)) (length mem) b)) (λ q. other (sym (fetch-outside b) ∙ q)))
+        (λ b. told-not (instruction mem (begin r) .answer) (rw (f, le-ltb (index (getD r iptrReg 0)) (length mem) b)) (λ q. other (sym (fetch-refused r mem h b .known .0) ∙ q)))
 
   -- ---- 9
 

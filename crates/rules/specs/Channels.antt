@@ -1,11 +1,10 @@
 -- Channels, soft and hard (000 1.8, 1.10, 1.11; 01, Links, clocks, slice), and alternatives.
-use Prim.Native.Nat.{ℕ, zero, suc, _+_, _-_, _*_, _^_}
+use Prim.Native.Nat.{ℕ, zero, suc, _+_}
 use mathlib.Core.List.{List}
-use lib.Bits.{bitAnd, bitOr}
-use Rattle.rules.specs.Tests.{pick, ifLt, ifLe, ifEq, ifSet}
-use Rattle.rules.specs.Words.{atByte, atWord, index, heldByte, clearBits}
+use Rattle.rules.specs.Tests.{ifLt, ifEq, ifSet}
+use Rattle.rules.specs.Words.{atWord, index, heldByte}
 use Rattle.rules.specs.Core.{wptrOf}
-use Rattle.rules.specs.Registers.{iptrReg, wdescReg, areg, breg, creg, pointerReg, countReg, channelReg, activeBit, enabledBit, heldBit, runRequest, readyRequest, linkChans, eventChannel}
+use Rattle.rules.specs.Registers.{wdescReg, areg, breg, creg, pointerReg, countReg, channelReg, activeBit, enabledBit, heldBit, runRequest, readyRequest, linkChans, eventChannel}
 use Rattle.rules.specs.Work.{Work, reg, put, raise, lower, wptr, gotoSNP, stop, refuse, readWord, rIndexWord, wIndexWord, transfer}
 use Rattle.rules.specs.Scheduling.{notProcess, enabling, waiting, ready, noneSelected, portBase, stateS, pointerS, saveIptr, run, wait}
 use Rattle.rules.specs.Data.{moveDone}

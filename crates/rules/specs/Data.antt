@@ -1,5 +1,5 @@
 -- Functions and operations that load and store and do not schedule (000 1.11).
-use Prim.Native.Nat.{ℕ, _+_, _-_, _%_, _^_}
+use Prim.Native.Nat.{ℕ, _%_}
 use mathlib.Core.List.{List}
 use lib.Bits.{bitOr}
 use Rattle.rules.specs.Words.{minus, atByte, atWord}

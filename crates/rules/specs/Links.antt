@@ -1,10 +1,9 @@
 -- Links and the event channel, the clocks (01, Links, clocks, slice): what take, give, event and tick do, and what an `in` that finds
 -- something held does.
-use Prim.Native.Nat.{ℕ, _+_, _-_, _*_, _≤_}
+use Prim.Native.Nat.{ℕ, _+_}
 use mathlib.Core.List.{List}
-use lib.Bits.{bitAnd, bitOr}
-use Rattle.rules.specs.Tests.{pick, ifLt, ifLe, ifEq, ifSet}
-use Rattle.rules.specs.Words.{minus, atByte, setBits, clearBits, heldByte, withHeldByte}
+use Rattle.rules.specs.Tests.{ifLt, ifLe, ifEq, ifSet}
+use Rattle.rules.specs.Words.{minus, atByte, setBits, withHeldByte}
 use Rattle.rules.specs.Stack.{clocksRun}
 use Rattle.rules.specs.Registers.{clockReg, prescalerReg, sliceReg, flagsReg, pointerReg, countReg, channelReg, activeBit, enabledBit, heldBit, runRequest, readyRequest, eventChannel}
 use Rattle.rules.specs.Work.{Work, reg, put, raise, lower, notReady, refuse, readByte, storeByte}

@@ -1,13 +1,13 @@
 -- Timer queues (000 1.8, 1.10, 1.11). Insertion and deletion are done in one step (01, One step). A walk passes at most N + 1 pointer
 -- values before one comes again, so a budget of N + 2 turns runs out exactly where one does (DECISIONS 27; proved in the crate `laws`).
-use Prim.Native.Nat.{ℕ, zero, suc, _+_, _-_, _*_}
+use Prim.Native.Nat.{ℕ, zero, suc, _+_}
 use mathlib.Core.Bool.{Bool, false, not}
 use mathlib.Core.List.{List}
-use lib.Bits.{bitAnd, bitOr}
+use lib.Bits.{bitOr}
 use lib.ListN.{length}
 use Rattle.rules.specs.Tests.{pick, ifEq, ifSet}
 use Rattle.rules.specs.Words.{atByte, atWord, later}
-use Rattle.rules.specs.Registers.{iptrReg, wdescReg, areg, breg, creg, oreg, clockReg, tnextReg, flagsReg, tEnabled}
+use Rattle.rules.specs.Registers.{areg, breg, creg, clockReg, tnextReg, flagsReg, tEnabled}
 use Rattle.rules.specs.Work.{Work, reg, put, raise, lower, wptr, priority, gotoSNP, stop, refuse, readWord, rIndexWord, wIndexWord}
 use Rattle.rules.specs.Scheduling.{notProcess, enabling, waiting, ready, timeSet, timeNotSet, noneSelected, timerBase, stateS, pointerS, tlinkS, timeS, saveIptr, run, wait}
 
