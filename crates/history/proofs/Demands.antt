@@ -7,19 +7,23 @@
 --
 -- Assumes nothing.
 use mathlib.Core.Path.{_≡_}
-use mathlib.Core.List.{List, []}
-use mathlib.Core.Bool.{Bool}
+use mathlib.Core.Logic.{_↔_}
+use mathlib.Core.List.{List, [], _++_}
+use mathlib.Core.Bool.{Bool, true, false}
 use Prim.Native.Nat.{ℕ, _≤_}
 use lib.ListN.{length, drop, replicate}
 use Rattle.rules.specs.Registers.{registers}
-use Rattle.rules.specs.Calls.{noMachine}
+use Rattle.rules.specs.Work.{begin, outside, stop}
+use Rattle.rules.specs.Step as steps
+use Rattle.rules.specs.Calls.{noMachine, sizeBad}
 use Rattle.rules.specs.declared.Machine.{Machine}
 use Rattle.rules.specs.declared.Reply.{Reply}
-use Rattle.refusals.specs.Conditions.{freshNumbers, stepNumbers, tickNumbers, takeNumbers, giveNumbers, eventNumbers, undoNumbers, clearNumbers}
+use Rattle.laws.specs.Alike.{Witness}
+use Rattle.refusals.specs.Conditions.{frame, isHalted, isIdle, stops, freshNumbers, stepNumbers, tickNumbers, takeNumbers, giveNumbers, eventNumbers, undoNumbers, clearNumbers}
 use Rattle.history.specs.Machine.{Act, undo, inOrder}
 use Rattle.history.specs.T414.{Call, step, tick, take, give, event, Whole, run, shown}
 use Rattle.history.specs.T414 as calls
-use Rattle.history.specs.Contracts.{Contract, FreshContract, StepContract, TickContract, TakeContract, GiveContract, EventContract, UndoContract, ClearContract, OneAnswer, Total, RefusesCleanly}
+use Rattle.history.specs.Contracts.{Contract, FreshContract, StepContract, TickContract, TakeContract, GiveContract, EventContract, UndoContract, ClearContract, number, Same, OneAnswer, Total, RefusesCleanly}
 use Rattle.history.specs.Given.{AnswersExactly}
 use Rattle.history.specs.Counted.{Counted, oneMore, oneLess, noRecord}
 use Rattle.history.specs.Chain.{left, Chain, stands, Moment, given, plain}
@@ -28,6 +32,7 @@ use Rattle.history.proofs.Unique.{fresh-unique, step-unique, tick-uniqu
 use Rattle.history.proofs.Unique.{fresh-total, step-total, tick-total, take-total, give-total, event-total, undo-total, clear-total}
 use Rattle.history.proofs.Refused.{fresh-refused, step-refused, tick-refused, take-refused, give-refused, event-refused, undo-refused, clear-refused}
 use Rattle.history.proofs.Exactly.{fresh-exactly, step-exactly, tick-exactly, take-exactly, give-exactly, event-exactly, undo-exactly, clear-exactly}
+use Rattle.history.proofs.Outside.{step-witness, step-longer, step-stops}
 use Rattle.history.proofs.Counted.{fresh-counted, step-counted, tick-counted, take-counted, give-counted, event-counted, undo-counted, clear-counted}
 use Rattle.history.proofs.Public.{public-history, public-records, public-undone}
 use Rattle.history.proofs.Functions.{byTheRules, rules-meet, reversible}
@@ -68,6 +73,23 @@ module _ (m : Machine) (h : length (m .regs) ≡ registers) where
 
   pub clear-demands : TotalAndExact (ClearContract m) (clearNumbers m) noRecord m
   clear-demands = record { total = clear-total m h; refuses-cleanly = clear-refused m; one-answer = clear-unique m; answers-exactly = clear-exactly m; counted = clear-counted m }
+
+-- ---- 10 and 11 of a step, said without its own answer
+
+module _ (m : Machine) (h : length (m .regs) ≡ registers) (mem j : List ℕ) (r : Reply) (mem′ j′ : List ℕ) (step : StepContract m mem j r mem′ j′) where
+  -- no access inside memory is refused: an answer 10 comes with a kind of access, 1 to 3, at an address outside memory
+  pub outside-demand : number r ≡ outside → Witness (length mem) (steps.step mem (begin (m .regs)))
+  outside-demand = step-witness m h mem j r mem′ j′ step
+
+  -- no access outside memory is made up for: any other result is the result in a memory with words appended, which stay as they are
+  pub inside-demand : (number r ≡ outside → ⊥) → (x : List ℕ) → 64 ≤ length mem → length (mem ++ x) ≤ 16384
+      → (r₂ : Reply) (mem₂ j₂ : List ℕ) → StepContract m (mem ++ x) j r₂ mem₂ j₂ → Same r₂ r mem₂ (mem′ ++ x) j₂ j′
+  inside-demand = step-longer m h mem j r mem′ j′ step
+
+  -- where no earlier number holds, 11 is answered exactly where the step comes to one of the places that Stop (crates/laws/specs/Stops.antt)
+  pub stop-demand : sizeBad mem j ≡ false → frame m j ≡ false → isHalted (m .regs) ≡ false → isIdle (m .regs) ≡ false
+      → (number r ≡ stop) ↔ (stops (m .regs) mem ≡ true)
+  stop-demand = step-stops m h mem j r mem′ j′ step
 
 -- ---- demand 3, of the contracts
 

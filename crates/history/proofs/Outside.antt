@@ -1,19 +1,23 @@
--- 10 Outside of a step, of its contract: the answer comes with the access that was refused, at an address outside memory; and a result that is not 10 is
--- the result in a memory with any words appended, up to 16,384 in all. Assumes nothing.
+-- 10 and 11 of a step, of its contract: an answer 10 comes with the access that was refused, at an address outside memory; a result that is not 10 is
+-- the result in a memory with any words appended, up to 16,384 in all; and 11 is answered exactly where the step Stops. Assumes nothing.
 use mathlib.Core.Path.{_≡_, sym, ap, _∙_}
+use mathlib.Core.Logic.{_↔_}
+use mathlib.Core.Bool.{true, false}
 use mathlib.Core.List.{List, _++_}
 use Prim.Native.Nat.{ℕ, _≤_}
 use lib.ListN.{length}
 use Rattle.rules.specs.Registers.{registers}
-use Rattle.rules.specs.Work.{begin, outside}
+use Rattle.rules.specs.Work.{begin, outside, stop}
 use Rattle.rules.specs.Step as steps
-use Rattle.rules.specs.Calls.{Outcome}
+use Rattle.rules.specs.Calls.{Outcome, sizeBad}
 use Rattle.rules.specs.Calls as rules
 use Rattle.rules.specs.declared.Machine.{Machine}
 use Rattle.rules.specs.declared.Reply.{Reply}
 use Rattle.laws.specs.Alike.{Witness}
+use Rattle.refusals.specs.Conditions.{frame, isHalted, isIdle, stops}
 use Rattle.refusals.specs.Outside.{appended}
 use Rattle.refusals.proofs.Outside as refusals
+use Rattle.refusals.proofs.Rings as rings
 use Rattle.history.specs.Contracts.{StepContract, Same, number}
 use Rattle.history.proofs.Unique.{same}
 
@@ -28,3 +32,10 @@ module _ (m : Machine) (h : length (m .regs) ≡ registers) (mem j : List ℕ) (
   step-longer n x l k r₂ mem₂ j₂ c =
       same (rules.step m (mem ++ x) j) r₂ r mem₂ (mem′ ++ x) j₂ j′ c
       (ap (appended x) step ∙ sym (refusals.step-longer m mem x j h l k (λ e. n (ap (λ (o : Outcome). o .answer) step ∙ e))))
+
+  -- 11 is answered exactly where the step comes to a place that Stops
+  pub step-stops : sizeBad mem j ≡ false → frame m j ≡ false → isHalted (m .regs) ≡ false → isIdle (m .regs) ≡ false → (number r ≡ stop) ↔ (stops (m .regs) mem ≡ true)
+  step-stops s f k i =
+      let told = rings.step-stops m mem j h s f k i in
+      let e = ap (λ (o : Outcome). o .answer) step in
+      ((λ q. told .0 (sym e ∙ q)), λ q. e ∙ told .1 q)
