@@ -276,10 +276,12 @@ timerRequestSites queue process =
 -- the walk of an insertion into the low queue, at time 1, by an operation in a state that leads there (000 1.10, InsertTest)
 unfoldable pub insertionSites : Instruction → Settings → List Bool
 insertionSites i s =
-    -- Time.s of the first; its TLink.s, with a store. Time.s of the first afterwards, where the process's own Iptr.s is TPtrLoc: then it is the
-    -- workspace at Iptr
+    -- Time.s of the first; its TLink.s, at the queue's end, with a store, before an earlier process, before a later one. Time.s of the first
+    -- afterwards, where the process's own Iptr.s is TPtrLoc: then it is the workspace at Iptr
     site i lastWord kindLoad none (λ a. (10, timeAt a) ∷ (index a, 5) ∷ s)
-    ∷ site i lastWord kindLoad none (λ a. (10, tlinkAt a) ∷ (index (a - 4), 0) ∷ (index a, notProcess) ∷ s)
+    ∷ site i lastWord kindLoad none (λ a. (10, tlinkAt a) ∷ (index a, notProcess) ∷ s)
+    ∷ site i lastWord kindLoad none (λ a. (10, tlinkAt a) ∷ (index a, other) ∷ (25, 0) ∷ (26, notProcess) ∷ s)
+    ∷ site i lastWord kindLoad none (λ a. (10, tlinkAt a) ∷ (index a, other) ∷ (25, 5) ∷ s)
     ∷ site i firstWord kindLoad (λ a. (wdescReg, low (iptrAt 0x8000_0028)) ∷ (iptrReg, timeAt a - 1) ∷ [])
     (λ a. (3, byteFor i * 2 ^ 24) ∷ (4, byteFor i * 2 ^ 24) ∷ (6, 0) ∷ (7, timeSet) ∷ (8, 0) ∷ [])
     ∷ []
@@ -319,8 +321,13 @@ timerSites =
     ∷ site (op 0x2E) firstWord kindLoad (λ a. (wdescReg, low (timeAt a)) ∷ (breg, 1) ∷ []) (λ a. (index (a + 4), timeSet) ∷ [])
     ∷ site (op 0x2E) lastWord kindLoad (λ a. (wdescReg, low a) ∷ (breg, 1) ∷ [])
     (λ a. (index (a - 4 * 5), 5) ∷ (index (a - 4 * 4), timeSet) ∷ (index a, noneSelected) ∷ [])
-    -- dist: TLink.s of the process before it in the queue, with a store; Time.s of the process that is first afterwards
+    -- dist, in the queue: TLink.s, with a store; TLink.s of the process before it, with a store, of the one before that; Time.s of the process
+    -- that is first afterwards
+    ∷ site (op 0x2E) lastWord kindLoad (λ a. (wdescReg, low (tlinkAt a)) ∷ (breg, 1) ∷ [])
+    (λ a. (10, tlinkAt a) ∷ (index a, notProcess) ∷ [])
     ∷ site (op 0x2E) lastWord kindLoad (λ a. (breg, 1) ∷ []) (λ a. (10, tlinkAt a) ∷ (index a, mine) ∷ (36, notProcess) ∷ [])
+    ∷ site (op 0x2E) lastWord kindLoad (λ a. (breg, 1) ∷ [])
+    (λ a. (10, tlinkAt a) ∷ (index a, other) ∷ (26, mine) ∷ (36, notProcess) ∷ [])
     ∷ site (op 0x2E) lastWord kindLoad (λ a. (breg, 1) ∷ []) (λ a. (10, mine) ∷ (36, timeAt a) ∷ [])
     ∷ []
 
