@@ -11,15 +11,16 @@ use mathlib.Core.Logic.{_↔_}
 use mathlib.Core.List.{List, [], _++_}
 use mathlib.Core.Bool.{Bool, true, false}
 use Prim.Native.Nat.{ℕ, _≤_}
-use lib.ListN.{length, drop, replicate}
-use Rattle.rules.specs.Registers.{registers}
+use lib.ListN.{length, getD, drop, replicate}
+use Rattle.rules.specs.Words.{index}
+use Rattle.rules.specs.Registers.{registers, iptrReg}
 use Rattle.rules.specs.Work.{begin, outside, stop}
 use Rattle.rules.specs.Step as steps
 use Rattle.rules.specs.Calls.{noMachine, sizeBad}
 use Rattle.rules.specs.declared.Machine.{Machine}
 use Rattle.rules.specs.declared.Reply.{Reply}
 use Rattle.laws.specs.Alike.{Witness}
-use Rattle.refusals.specs.Conditions.{frame, isHalted, isIdle, stops, freshNumbers, stepNumbers, tickNumbers, takeNumbers, giveNumbers, eventNumbers, undoNumbers, clearNumbers}
+use Rattle.refusals.specs.Conditions.{frame, isHalted, isIdle, fetches, stops, freshNumbers, stepNumbers, tickNumbers, takeNumbers, giveNumbers, eventNumbers, undoNumbers, clearNumbers}
 use Rattle.history.specs.Machine.{Act, undo, inOrder}
 use Rattle.history.specs.T414.{Call, step, tick, take, give, event, Whole, run, shown}
 use Rattle.history.specs.T414 as calls
@@ -32,7 +33,7 @@ use Rattle.history.proofs.Unique.{fresh-unique, step-unique, tick-uniqu
 use Rattle.history.proofs.Unique.{fresh-total, step-total, tick-total, take-total, give-total, event-total, undo-total, clear-total}
 use Rattle.history.proofs.Refused.{fresh-refused, step-refused, tick-refused, take-refused, give-refused, event-refused, undo-refused, clear-refused}
 use Rattle.history.proofs.Exactly.{fresh-exactly, step-exactly, tick-exactly, take-exactly, give-exactly, event-exactly, undo-exactly, clear-exactly}
-use Rattle.history.proofs.Outside.{step-witness, step-longer, step-stops}
+use Rattle.history.proofs.Outside.{step-witness, step-fetch-outside, step-longer, step-stops}
 use Rattle.history.proofs.Counted.{fresh-counted, step-counted, tick-counted, take-counted, give-counted, event-counted, undo-counted, clear-counted}
 use Rattle.history.proofs.Public.{public-history, public-records, public-undone}
 use Rattle.history.proofs.Functions.{byTheRules, rules-meet, reversible}
@@ -81,7 +82,12 @@ module _ (m : Machine) (h : length (m .regs) ≡ registers) (mem j : List ℕ) (
   pub outside-demand : number r ≡ outside → Witness (length mem) (steps.step mem (begin (m .regs)))
   outside-demand = step-witness m h mem j r mem′ j′ step
 
-  -- no access outside memory is made up for: any other result is the result in a memory with words appended, which stay as they are
+  -- where (c) applies and Iptr is outside memory, 10 is answered
+  pub fetch-demand : sizeBad mem j ≡ false → frame m j ≡ false → isHalted (m .regs) ≡ false → isIdle (m .regs) ≡ false → fetches (m .regs) ≡ true
+      → length mem ≤ index (getD (m .regs) iptrReg 0) → number r ≡ outside
+  fetch-demand = step-fetch-outside m h mem j r mem′ j′ step
+
+  -- nothing of what lies behind memory comes into the result: any other result is that in a memory with words appended, which stay as they are
   pub inside-demand : (number r ≡ outside → ⊥) → (x : List ℕ) → 64 ≤ length mem → length (mem ++ x) ≤ 16384
       → (r₂ : Reply) (mem₂ j₂ : List ℕ) → StepContract m (mem ++ x) j r₂ mem₂ j₂ → Same r₂ r mem₂ (mem′ ++ x) j₂ j′
   inside-demand = step-longer m h mem j r mem′ j′ step

@@ -1,12 +1,13 @@
--- 10 and 11 of a step, of its contract: an answer 10 comes with the access that was refused, at an address outside memory; a result that is not 10 is
--- the result in a memory with any words appended, up to 16,384 in all; and 11 is answered exactly where the step Stops. Assumes nothing.
+-- 10 and 11 of a step, of its contract: an answer 10 comes with the access that was refused, at an address outside memory; a result that is not 10,
+-- in a memory of 64 words or more, is the result with any words appended, up to 16,384 in all; and 11 is answered exactly where the step Stops. Assumes nothing.
 use mathlib.Core.Path.{_≡_, sym, ap, _∙_}
 use mathlib.Core.Logic.{_↔_}
 use mathlib.Core.Bool.{true, false}
 use mathlib.Core.List.{List, _++_}
 use Prim.Native.Nat.{ℕ, _≤_}
-use lib.ListN.{length}
-use Rattle.rules.specs.Registers.{registers}
+use lib.ListN.{length, getD}
+use Rattle.rules.specs.Words.{index}
+use Rattle.rules.specs.Registers.{registers, iptrReg}
 use Rattle.rules.specs.Work.{begin, outside, stop}
 use Rattle.rules.specs.Step as steps
 use Rattle.rules.specs.Calls.{Outcome, sizeBad}
@@ -14,7 +15,7 @@ use Rattle.rules.specs.Calls as rules
 use Rattle.rules.specs.declared.Machine.{Machine}
 use Rattle.rules.specs.declared.Reply.{Reply}
 use Rattle.laws.specs.Alike.{Witness}
-use Rattle.refusals.specs.Conditions.{frame, isHalted, isIdle, stops}
+use Rattle.refusals.specs.Conditions.{frame, isHalted, isIdle, fetches, stops}
 use Rattle.refusals.specs.Outside.{appended}
 use Rattle.refusals.proofs.Outside as refusals
 use Rattle.refusals.proofs.Rings as rings
@@ -32,6 +33,11 @@ module _ (m : Machine) (h : length (m .regs) ≡ registers) (mem j : List ℕ) (
   step-longer n x l k r₂ mem₂ j₂ c =
       same (rules.step m (mem ++ x) j) r₂ r mem₂ (mem′ ++ x) j₂ j′ c
       (ap (appended x) step ∙ sym (refusals.step-longer m mem x j h l k (λ e. n (ap (λ (o : Outcome). o .answer) step ∙ e))))
+
+  -- where (c) applies and Iptr is outside memory, 10 is answered
+  pub step-fetch-outside : sizeBad mem j ≡ false → frame m j ≡ false → isHalted (m .regs) ≡ false → isIdle (m .regs) ≡ false → fetches (m .regs) ≡ true
+      → length mem ≤ index (getD (m .regs) iptrReg 0) → number r ≡ outside
+  step-fetch-outside s f k i c o = ap (λ (o : Outcome). o .answer) step ∙ refusals.step-fetch-outside m mem j h s f k i c o .0
 
   -- 11 is answered exactly where the step comes to a place that Stops
   pub step-stops : sizeBad mem j ≡ false → frame m j ≡ false → isHalted (m .regs) ≡ false → isIdle (m .regs) ≡ false → (number r ≡ stop) ↔ (stops (m .regs) mem ≡ true)

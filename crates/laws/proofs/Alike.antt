@@ -65,7 +65,7 @@ module _ {size : ℕ} where
   self u = same refl u
 
   keep-witness : (w v : Work) → v .kind ≡ w .kind → v .address ≡ w .address → Witness size w → Witness size v
-  keep-witness w v e f t = record { least = rw e (t .least); most = rw e (t .most); beyond = rw f (t .beyond) }
+  keep-witness w v e f t = record { least = rw e (t .least); most = rw e (t .most); away = rw f (t .away) }
 
   -- THE LIFT: what keeps refusals, and is alike of the same unrefused work, is alike of work that is alike
   pub lift : (m m′ : List ℕ) (g : List ℕ → Work → Work) → Stays g → ((w : Work) → Unrefused size w → Alike size (g m w) (g m′ w))
@@ -161,7 +161,7 @@ module _ (m x : List ℕ) where
   lost g s kind a low high h w v′ u =
       let e : refuseAt outside kind a w ≡ record { regs = w .regs; stored = w .stored; answer = outside; kind = kind; address = a } = rw (yes-eq (u .none)) in
       let f = s m outside kind a (never-turns outside kind a (λ z. omega (arith, z))) _ (subst (Fine (AnswerIs outside kind a)) (sym e) (record { count = u .count; known = (refl, refl, refl); ten = never-turns outside kind a (λ z. omega (arith, z)) outside })) in
-      beyond (f .known .0) (f .count) (record { least = rw (f .known .1) low; most = rw (f .known .1) high; beyond = rw (f .known .2) h })
+      beyond (f .known .0) (f .count) (record { least = rw (f .known .1) low; most = rw (f .known .1) high; away = rw (f .known .2) h })
 
   outside-refused : (kind a : ℕ) (w : Work) → length m ≤ index a → access m kind a w ≡ refuseAt outside kind a w
   unfolding access

@@ -11,7 +11,7 @@ use lib.Dec.{eqb}
 use lib.ListN.{length}
 use Rattle.rules.specs.Words.{index}
 use Rattle.rules.specs.Registers.{registers}
-use Rattle.rules.specs.Work.{Work, stop, outside, refuseAt, refuse, access, kindLoad, wordAt, loadWord, readWord}
+use Rattle.rules.specs.Work.{Work, stop, outside, refuseAt, refuse, access, kindLoad, wordAt, readWord}
 use Rattle.rules.proofs.Tests.{yes-lt, no-lt, yes-eq, cases-lt, cases-eq}
 use Rattle.laws.specs.Ring.{isOutside}
 use Rattle.laws.specs.Stops.{going}
@@ -130,7 +130,7 @@ tells-going w v t c keep f =
 
 -- and one that begins with: the word that is read is inside memory
 pub tells-read : (m : List ℕ) (a : ℕ) (next : ℕ → Work → Work) (w : Work) (t : Bool) → length (w .regs) ≡ registers → w .answer ≡ 0
-    → Keeping (loadWord m a w) (readWord m a next w) → Tells t (next (wordAt m a w) w) → Tells (not (isOutside m a) && t) (readWord m a next w)
+    → Keeping (access m kindLoad a w) (readWord m a next w) → Tells t (next (wordAt m a w) w) → Tells (not (isOutside m a) && t) (readWord m a next w)
 tells-read m a next w t h e keep f =
     cases-lt (index a) (length m)
     (λ b. rw (lt-leb (length m) (index a) b) (subst (λ (x : Work). Tells t (next (wordAt m a w) x)) (sym (inside-same m kindLoad a w b)) f))

@@ -7,7 +7,7 @@ use native.Mathlib.Omega.{arith}
 use lib.ListN.{length, length-set}
 use Rattle.rules.specs.Registers.{registers, withCore, withSystem}
 use Rattle.rules.specs.Memory.{Store}
-use Rattle.rules.specs.Work.{Work, begin, put, raise, lower, gotoSNP, putCore, putSystem, onCore, onAttempt, onBoth, outside, stop, refuseAt, refuse, append, attempted, putBoth, access, storeWord, storeByte, rIndexWord, rIndexByte, wIndexWord, settleMove, transfer}
+use Rattle.rules.specs.Work.{Work, begin, put, raise, lower, gotoSNP, putCore, putSystem, outside, stop, refuseAt, refuse, append, attempted, putBoth, access, storeWord, storeByte, rIndexWord, rIndexByte, wIndexWord, settleMove, transfer}
 use Rattle.rules.specs.declared.Core.{Core}
 use Rattle.rules.specs.declared.System.{System}
 use Rattle.rules.specs.declared.Attempt.{Attempt}
@@ -81,22 +81,13 @@ module _ {P : ℕ → ℕ → ℕ → Type 0} where
 
   -- ---- operations on registers alone
 
-  pub fine-onCore : (g : Core → Core) {w : Work} → Fine P w → Fine P (onCore g w)
-  fine-onCore g f = fine-putCore _ f
-
   pub fine-attempted : (t : Attempt) → Turns P stop → {w : Work} → Fine P w → Fine P (attempted t w)
   unfolding attempted
   fine-attempted t s f = on-pick (Fine P) (t .stops) (fine-refuse stop s f) (fine-putCore _ f)
 
-  pub fine-onAttempt : (g : Core → Attempt) → Turns P stop → {w : Work} → Fine P w → Fine P (onAttempt g w)
-  fine-onAttempt g s f = fine-attempted _ s f
-
   pub fine-putBoth : (t : Both) {w : Work} → Fine P w → Fine P (putBoth t w)
   unfolding putBoth
   fine-putBoth t f = fine-putSystem _ (fine-putCore _ f)
-
-  pub fine-onBoth : (g : Core → System → Both) {w : Work} → Fine P w → Fine P (onBoth g w)
-  fine-onBoth g f = fine-putBoth _ f
 
   -- ---- accesses
 

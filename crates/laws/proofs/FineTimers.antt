@@ -1,7 +1,7 @@
 -- Every definition of Timers.antt (timer queues) keeps work fine. Assumes nothing.
 use mathlib.Core.List.{List}
 use Prim.Native.Nat.{ℕ, zero, suc}
-use Rattle.rules.specs.Work.{Work, loadWord, priority, reg, stop, wordAt}
+use Rattle.rules.specs.Work.{Work, priority, reg, stop, wordAt, access, kindLoad}
 use Rattle.rules.specs.Timers.{nextTime, dropB, setNext, timedOut, timerStatus, timerWake, timerNext, timerUnlink, timerFront, timerServe, handleTimerRequest, insertNext, insertLink, insertFinalStep, insertWalk, insertFirstStep, deleteNext, deleteLink, deleteFinalStep, deleteWalk, deleteFirstStep, selectFirst, isThisSelectedProcess, tin, talt, timeNow, taltwtTime, taltwtLink, taltwtState, taltwt, enbtFirst, enbtEarlier, enbtLink, enbtGuard, enbt, distReady, distSet, distLink, dist}
 use Rattle.rules.specs.Words.{atWord, later}
 use Rattle.rules.specs.Registers.{areg, breg, clockReg, creg}
@@ -72,7 +72,7 @@ module _ {P : ℕ → ℕ → ℕ → Type 0} where
   fine-insertWalk m zero time previous s f = fine-refuse stop s f
   fine-insertWalk m (suc turns) time previous s {w} f =
       on-eq (Fine P) _ _ (fine-insertFinalStep m _ _ (fine-access _ _ _ f))
-      (on-pick (Fine P) (later time (wordAt m (atWord (wordAt m previous w) timeS) (loadWord m previous w)))
+      (on-pick (Fine P) (later time (wordAt m (atWord (wordAt m previous w) timeS) (access m kindLoad previous w)))
       (fine-insertWalk m turns time (atWord (wordAt m previous w) tlinkS) s (fine-access _ _ _ (fine-access _ _ _ f)))
       (fine-insertFinalStep m _ _ (fine-access _ _ _ (fine-access _ _ _ f))))
 

@@ -12,7 +12,7 @@ use Rattle.rules.specs.Tests.{pick, ifEq}
 use Rattle.rules.specs.Words.{atWord, index, later}
 use Rattle.rules.specs.Memory.{stores}
 use Rattle.rules.specs.Registers.{registers}
-use Rattle.rules.specs.Work.{Work, stop, refuseAt, wordAt, loadWord}
+use Rattle.rules.specs.Work.{Work, stop, refuseAt, wordAt, access, kindLoad}
 use Rattle.rules.specs.Scheduling.{notProcess, tlinkS, timeS}
 use Rattle.rules.specs.Timers.{insertFinalStep, insertWalk}
 use Rattle.rules.proofs.Tests.{yes-eq, no-eq, on-pick, on-eq, cases-lt}
@@ -30,8 +30,8 @@ module _ (m : List ℕ) (time : ℕ) (w : Work) (count : length (w .regs) ≡ re
       → insertWalk m (suc turns) time previous w
       ≡ ifEq (wordAt m previous w) notProcess (insertFinalStep m previous (wordAt m previous w) w)
       (pick (later time (wordAt m (atWord (wordAt m previous w) timeS) w))
-      (insertWalk m turns time (atWord (wordAt m previous w) tlinkS) (loadWord m (atWord (wordAt m previous w) timeS) w))
-      (insertFinalStep m previous (wordAt m previous w) (loadWord m (atWord (wordAt m previous w) timeS) w)))
+      (insertWalk m turns time (atWord (wordAt m previous w) tlinkS) (access m kindLoad (atWord (wordAt m previous w) timeS) w))
+      (insertFinalStep m previous (wordAt m previous w) (access m kindLoad (atWord (wordAt m previous w) timeS) w)))
   unfolding insertWalk
   insert-turn turns previous h = rw (inside-same m 2 previous w h)
 
@@ -43,7 +43,7 @@ module _ (m : List ℕ) (time : ℕ) (w : Work) (count : length (w .regs) ≡ re
       lost m 2 previous w count h none _
       (λ P t f.
       on-eq (Fine P) p notProcess (fine-insertFinalStep m previous p f)
-      (on-pick (Fine P) (later time (wordAt m (atWord p timeS) (loadWord m previous w)))
+      (on-pick (Fine P) (later time (wordAt m (atWord p timeS) (access m kindLoad previous w)))
       (fine-insertWalk m turns time (atWord p tlinkS) (t stop) (fine-access m 2 _ f))
       (fine-insertFinalStep m previous p (fine-access m 2 _ f))))
 
@@ -76,7 +76,7 @@ module _ (m : List ℕ) (time : ℕ) (w : Work) (count : length (w .regs) ≡ re
       calm = calm-none count none
 
       on : Work
-      on = loadWord m (atWord p timeS) w
+      on = access m kindLoad (atWord p timeS) w
 
       found : Calm (insertFinalStep m previous p on)
       found = fine-insertFinalStep m previous p (fine-access m 2 (atWord p timeS) calm)

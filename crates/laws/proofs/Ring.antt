@@ -150,10 +150,6 @@ module _ (word load : ℕ → ℕ) (ends : ℕ → Bool) (size : ℕ) (within : 
     pub walks-budget : (p : ℕ) → Walks next ends [] p (budget next ends turns p)
     walks-budget p = walks-from turns [] p tt tt (omega arith)
 
-    -- it runs out exactly where a pointer comes again
-    pub ring-iff : (p : ℕ) → (budget next ends turns p ≡ round) ↔ Walks next ends [] p round
-    ring-iff p = ((λ e. rw e at (walks-budget p)), (λ w. walks-unique next ends (walks-budget p) w))
-
     pub walks-to : (p : ℕ) (r : Way) → budget next ends turns p ≡ r → Walks next ends [] p r
     walks-to p r e = rw e at (walks-budget p)
 

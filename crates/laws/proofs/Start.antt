@@ -12,7 +12,7 @@ use Rattle.rules.specs.Words.{atByte, atWord, index, clearBits}
 use Rattle.rules.specs.Core.{wptrOf}
 use Rattle.rules.specs.Registers.{iptrReg, wdescReg, areg, breg, creg, oreg, clockReg, flagsReg, tEnabled}
 use Rattle.rules.specs.Memory.{Store, word}
-use Rattle.rules.specs.Work.{Work, reg, put, lower, wptr, priority, append, access, refuseAt, outside, wordAt, loadWord, kindLoad, kindStore, storeWord, rIndexWord, wIndexWord}
+use Rattle.rules.specs.Work.{Work, reg, put, lower, wptr, priority, append, access, refuseAt, outside, wordAt, kindLoad, kindStore, storeWord, rIndexWord, wIndexWord}
 use Rattle.rules.specs.Scheduling.{waiting, noneSelected, stateS, tlinkS, timeS}
 use Rattle.rules.specs.Timers.{tptrLoc, nextTime}
 use Rattle.rules.specs.Step.{fetched}
@@ -64,7 +64,7 @@ module _ (i x : ℕ) (apart : (k : ℕ) → 1 ≤ k → (k ≡ oreg → ⊥) →
   load-past : (base n k : ℕ) (w : Work) → 1 ≤ k → (k ≡ oreg → ⊥) → rIndexWord m base n k (put i x w) ≡ put i x (rIndexWord m base n k w)
   unfolding rIndexWord
   load-past base n k w h d =
-      rw (access-past kindLoad (atWord base n) w, word-past (atWord base n) w) (put-past k (wordAt m (atWord base n) w) (loadWord m (atWord base n) w) h d)
+      rw (access-past kindLoad (atWord base n) w, word-past (atWord base n) w) (put-past k (wordAt m (atWord base n) w) (access m kindLoad (atWord base n) w) h d)
 
   a-past : (w : Work) → reg areg (put i x w) ≡ reg areg w
   a-past w = reg-past areg w (omega arith) (λ e. omega (arith, e))

@@ -1,7 +1,6 @@
 -- 000's InsertFirstStep and DeleteFirstStep are refused with Stop exactly where the walk along the timer queue comes again to a pointer value
 -- that it has passed (01, Answers by number, 11; DECISIONS 27). Assumes nothing.
 use mathlib.Core.Path.{_≡_, refl, _∙_}
-use mathlib.Core.Logic.{_↔_}
 use mathlib.Core.List.{List}
 use Prim.Native.Nat.{ℕ, _≤_, _<_}
 use native.Mathlib.Omega.{arith}
@@ -9,15 +8,14 @@ use lib.Bits.{and-mask}
 use lib.ListN.{length}
 use Rattle.rules.specs.Words.{index}
 use Rattle.rules.specs.Registers.{registers, wdescReg, areg}
-use Rattle.rules.specs.Work.{Work, reg, put, lower, priority, stop, wordAt}
+use Rattle.rules.specs.Work.{Work, reg, put, lower, priority, stop}
 use Rattle.rules.specs.Timers.{tptrLoc, insertFirstStep, deleteFirstStep}
-use Rattle.laws.specs.Ring.{InsertRing, DeleteRing}
 use Rattle.laws.specs.Stops.{going, insertStarted, deleteStarted, insertStops, deleteStops}
 use Rattle.laws.proofs.Fine.{fine-lower, fine-wIndexWord}
 use Rattle.laws.proofs.FineTimers.{fine-insertWalk}
 use Rattle.laws.proofs.Calm.{Calm, any-fine, Tells, regroup, tells-going}
-use Rattle.laws.proofs.InsertRing.{insert-ring, insert-tells}
-use Rattle.laws.proofs.DeleteRing.{delete-ring, delete-tells}
+use Rattle.laws.proofs.InsertRing.{insert-tells}
+use Rattle.laws.proofs.DeleteRing.{delete-tells}
 
 -- TPtrLoc is words 9 and 10
 queue-word : (queue : ℕ) → queue < 2 → index (tptrLoc queue) < 64
@@ -41,17 +39,6 @@ module _ (m : List ℕ) (w : Work) (count : length (w .regs) ≡ registers) wher
 
   pub off-answer : w .answer ≡ 0 → deleteStarted w .answer ≡ 0
   off-answer e = lower-answer _ _ w ∙ e
-
-  -- a time is stored in the workspace, then the walk begins at the queue's first word
-  pub insert-step-ring : 64 ≤ length m → insertStarted m w .answer ≡ 0
-      → (insertFirstStep m w .answer ≡ stop) ↔ InsertRing m (insertStarted m w) (reg areg w) (wordAt m (tptrLoc (priority w)) (insertStarted m w))
-  unfolding insertFirstStep
-  insert-step-ring h e = insert-ring m (reg areg w) _ started-count e (tptrLoc (priority w)) (queue-inside m w h)
-
-  pub delete-step-ring : 64 ≤ length m → w .answer ≡ 0
-      → (deleteFirstStep m w .answer ≡ stop) ↔ DeleteRing m (deleteStarted w) (wordAt m (tptrLoc (priority w)) (deleteStarted w))
-  unfolding deleteFirstStep
-  delete-step-ring h e = delete-ring m _ off-count (off-answer e) (tptrLoc (priority w)) (queue-inside m w h)
 
   -- and the tests of the places tell it
   pub delete-stops : w .answer ≡ 0 → Tells (deleteStops m w) (deleteFirstStep m w)

@@ -44,10 +44,6 @@ unfolding stores
 stores-append m [] ts = refl
 stores-append m (s ∷ ss) ts = stores-append (storing m s) ss ts
 
-pub stores-snoc : (m : List ℕ) (ss : List Store) (s : Store) → stores m (ss ++ (s ∷ [])) ≡ storing (stores m ss) s
-unfolding stores
-stores-snoc m ss s = stores-append m ss (s ∷ [])
-
 -- ---- a word that no store touches
 
 pick-false : (a b : Bool) → pick a true b ≡ false → (a ≡ false) × (b ≡ false)

@@ -84,10 +84,6 @@ hit-from size b (suc n) ss i h = go (hit size b ss) refl (hit-from size (suc b) 
     go true e o = ((λ q. let e′ : hit size i ss ≡ true = rw q e in let z : _≡_ {A = ℕ} 0 1 = cc in omega arith), o)
     go false e o = o
 
-pub hit-off : (size : ℕ) (ss : List Store) (i : ℕ) → hit size i ss ≡ false → Off i (touched size ss)
-unfolding touched
-hit-off size ss i h = hit-from size 0 size ss i h
-
 -- ---- memory outside the touched words is as before
 
 pub outside-touched : (m : List ℕ) (ss : List Store) (i : ℕ) → Off i (touched (length m) ss) → getD (stores m ss) i 0 ≡ getD m i 0

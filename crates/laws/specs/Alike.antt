@@ -1,4 +1,4 @@
--- The same work in a memory, and in that memory with words appended: no access outside the shorter one is made up for.
+-- The same work in a memory, and in that memory with words appended: nothing of what lies behind the shorter one comes into the result.
 use mathlib.Core.Path.{_≡_}
 use mathlib.Core.List.{List, [], _∷_}
 use Prim.Native.Nat.{ℕ, _+_, _*_, _≤_, _<_}
@@ -19,11 +19,11 @@ Inside size [] = Unit {0}
 Inside size (s ∷ ss) = StoreInside size s × Inside size ss
 
 -- an answer 10 comes with the kind of the access that was refused, 1 to 3, and with its address, which is outside a memory of size words
--- (01, Answers by number, 10; DECISIONS 44)
+-- (01, Answers by number, 10; DECISIONS 44, 57)
 pub record Witness (size : ℕ) (w : Work) : Type 0 where
   pub least : kindFetch ≤ w .kind
   pub most : w .kind ≤ kindStore
-  pub beyond : size ≤ index (w .address)
+  pub away : size ≤ index (w .address)
 
 -- nothing is refused yet, and every store is inside a memory of size words (01, Answers by number)
 pub record Unrefused (size : ℕ) (w : Work) : Type 0 where

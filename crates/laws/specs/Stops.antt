@@ -135,7 +135,7 @@ readyOrWaiting status = eqb status ready || eqb status waiting
 abbrev pub channelStatus : ℕ → List ℕ → Work → ℕ
 channelStatus hc m w = atWord (wptrOf (wordAt m (atWord portBase hc) w)) pointerS
 
--- a channel request is served: it is a ready request alone, both loads are inside memory, and the process's status is none of
+-- a channel request is served: no run request is set, so it is a ready request; both loads are inside memory, and the process's status is none of
 -- Enabling.p, Ready.p, Waiting.p (000 1.8, HandleChannelRequest; DECISIONS 26)
 unfoldable pub requestStops : ℕ → Place
 requestStops hc m w =

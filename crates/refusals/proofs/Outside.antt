@@ -1,5 +1,5 @@
 -- 10 Outside of a step, without circling back to the step's own answer: it comes with the access that was refused, whose address is outside memory; a fetch
--- outside is refused so; and a step that does not answer 10 does the same in a memory with any words appended, so that no access outside was made up for.
+-- outside is refused so; and a step that does not answer 10 in a memory of 64 words or more does the same with any words appended, up to 16,384 in all.
 -- Of a machine of 45 registers.
 use mathlib.Core.Path.{_≡_, refl, sym, _∙_}
 use mathlib.Core.Bool.{Bool, true, false, _||_}

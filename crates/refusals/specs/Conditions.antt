@@ -110,7 +110,7 @@ pointerOutside c r mem = isMoving c r && leb (length mem) (index (getD r (pointe
 abbrev pub ownAnswer : List ℕ → List ℕ → ℕ
 ownAnswer r mem = steps.choose mem (begin r) .answer
 
--- 10 Outside, of step: fetch, load or store outside memory (01, Answers by number; DECISIONS 25)
+-- 10 Outside, of step: its own work ends with 10, for a fetch, load or store outside memory (01, Answers by number; DECISIONS 25, 57)
 abbrev pub stepOutside : List ℕ → List ℕ → Bool
 stepOutside r mem = eqb (ownAnswer r mem) 10
 

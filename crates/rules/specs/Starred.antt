@@ -1,5 +1,5 @@
--- The starred lines of 01, "Numbers at the edges". All but one are a table of runs by the public calls, `starred`; the one that is of all
--- times is `NeitherLater`. `starred-hold` (proofs/Starred.antt) proves them: the table by one computation, and the law.
+-- The starred lines of 01, "Numbers at the edges". All but one are a table, `starred`: runs by the public calls, and one test of `later`; the one that
+-- is of all times is `NeitherLater`. `starred-hold` (proofs/Starred.antt) proves them: the table by one computation, and the law.
 use mathlib.Core.Path.{_≡_}
 use mathlib.Core.Bool.{Bool, true, false, _&&_}
 use mathlib.Core.List.{List, [], _∷_}
@@ -39,7 +39,7 @@ starting registers words o =
       journal = o .journal;
     }
 
--- after a call, n steps by the call step: the answer of each of them all is 0, and then registers and memory have these words
+-- after a call, n steps by the call step: the call and each step answer 0, and then registers and memory have these words
 -- (01, One step; 01, Answers by number)
 unfoldable pub leads : ℕ → Outcome → Settings → Settings → Bool
 leads zero o registers words =

@@ -19,7 +19,7 @@ ghost use Rattle.rules.specs.Registers as registers;
 ghost use Rattle.plan.specs.View.{view, Room, Grown};
 
 pub fn load_word(w: Plan, mem: &[u32], a: u32) -> Plan
-    ensures { λ r. ⌜ (view r ≡ rules.loadWord (now (mem .entry)) a (view w)) × Grown 0 w r ⌝ }
+    ensures { λ r. ⌜ (view r ≡ rules.access (now (mem .entry)) rules.kindLoad a (view w)) × Grown 0 w r ⌝ }
 {
     access(w, mem, KIND_LOAD, a)
 }

@@ -1,10 +1,10 @@
 -- One turn of the walks along a timer queue, and their end without a turn left, over what the code has read. Assumes nothing.
-use mathlib.Core.Path.{_≡_, refl}
+use mathlib.Core.Path.{_≡_}
 use mathlib.Core.Bool.{true, false}
 use mathlib.Core.List.{List}
 use Prim.Native.Nat.{ℕ, suc}
 use Rattle.rules.specs.Words.{atWord, later}
-use Rattle.rules.specs.Work.{Work, wptr, stop, refuse, wordAt, loadWord}
+use Rattle.rules.specs.Work.{Work, wptr, stop, refuse, wordAt, access, kindLoad}
 use Rattle.rules.specs.Scheduling.{notProcess, tlinkS, timeS}
 use Rattle.rules.specs.Timers.{insertWalk, insertFinalStep, deleteWalk, deleteFinalStep}
 use Rattle.rules.proofs.Tests.{yes-eq, no-eq}
@@ -15,14 +15,14 @@ module _ (m : List ℕ) (time : ℕ) where
   insert-out left place w h = rw h
 
   -- s is the next process
-  module _ (left n place s : ℕ) (w w₁ : Work) (el : left ≡ suc n) (es : s ≡ wordAt m place w) (e₁ : w₁ ≡ loadWord m place w) where
+  module _ (left n place s : ℕ) (w w₁ : Work) (el : left ≡ suc n) (es : s ≡ wordAt m place w) (e₁ : w₁ ≡ access m kindLoad place w) where
     pub insert-end : s ≡ notProcess → insertWalk m left time place w ≡ insertFinalStep m place s w₁
     unfolding insertWalk
     insert-end h = rw (el, ← es, ← e₁, yes-eq h)
 
     -- a is the address of its time, and that time is t
     module _ (a t : ℕ) (w₂ : Work) (no : s ≡ notProcess → ⊥) (ea : a ≡ atWord s timeS) (et : t ≡ wordAt m a w₁)
-        (e₂ : w₂ ≡ loadWord m a w₁) where
+        (e₂ : w₂ ≡ access m kindLoad a w₁) where
       pub insert-here : later time t ≡ false → insertWalk m left time place w ≡ insertFinalStep m place s w₂
       unfolding insertWalk
       insert-here l = rw (el, ← es, ← e₁, no-eq no, ← ea, ← et, ← e₂, l)
@@ -41,7 +41,7 @@ module _ (m : List ℕ) where
   delete-out left place w h = rw h
 
   -- s is the next process
-  module _ (left n place s : ℕ) (w w₁ : Work) (el : left ≡ suc n) (es : s ≡ wordAt m place w) (e₁ : w₁ ≡ loadWord m place w) where
+  module _ (left n place s : ℕ) (w w₁ : Work) (el : left ≡ suc n) (es : s ≡ wordAt m place w) (e₁ : w₁ ≡ access m kindLoad place w) where
     pub delete-here : s ≡ wptr w → deleteWalk m left place w ≡ deleteFinalStep m place w₁
     unfolding deleteWalk
     delete-here h = rw (el, ← es, ← e₁, yes-eq h)

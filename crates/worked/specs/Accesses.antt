@@ -88,10 +88,19 @@ makes call i registers words a = answers 0 0 0 (workAt call i registers words a)
 unfoldable pub refuses : Call → Instruction → ℕ → (ℕ → Settings) → (ℕ → Settings) → ℕ → Bool
 refuses call i kind registers words a = answers outside kind a (workAt call i registers words a)
 
--- an access of a step at an edge: made inside, refused outside (01, Answers by number)
+-- far outside memory the step answers 10, whichever of its accesses comes first (01, Answers by number)
+unfoldable pub refusesFar : Instruction → (ℕ → Settings) → (ℕ → Settings) → ℕ → Bool
+refusesFar i registers words a = eqb (workAt step i registers words a .answer) outside
+
+-- an access of a step at an edge: made inside, refused just outside, and refused a quarter, a half and three quarters of the addresses further on
+-- (01, Answers by number)
 unfoldable pub site : Instruction → ℕ × ℕ → ℕ → (ℕ → Settings) → (ℕ → Settings) → Bool
 site i edge kind registers words =
-    makes step i registers words (edge .0) && refuses step i kind registers words (edge .1)
+    makes step i registers words (edge .0)
+    && refuses step i kind registers words (edge .1)
+    && refusesFar i registers words 0
+    && refusesFar i registers words 0x4000_0000
+    && refusesFar i registers words 0xC000_0000
 
 -- one that is outside: where it is just inside, another access of the step is outside (01, Answers by number)
 unfoldable pub refused : Instruction → ℕ × ℕ → ℕ → (ℕ → Settings) → (ℕ → Settings) → Bool
@@ -449,3 +458,48 @@ linkSites =
     ∷ makes (λ m. give m 4 0xAB) unfetched (pointerAt 4) none (lastByte .0)
     ∷ refuses (λ m. give m 4 0xAB) unfetched kindStore (pointerAt 4) none (lastByte .1)
     ∷ []
+
+-- ---- what makes no access there
+
+-- Wptr is 0, far outside memory (01, Memory and registers)
+abbrev pub lostWptr : Settings
+lostWptr = (wdescReg, 1) ∷ []
+
+-- an instruction that makes no access, or none through Wptr, goes on where Wptr is outside (01, Answers by number)
+unfoldable pub spares : Instruction → Settings → Bool
+spares i registers = accepted i lastWord (λ a. lostWptr ++ registers) none
+
+-- the functions that make no access: j, ldlp, pfix, ldc, ldnlp, nfix, adc, cj, ajw, eqc (000 1.11)
+unfoldable pub freeFunctions : List ℕ
+freeFunctions = 0x0 ∷ 0x1 ∷ 0x2 ∷ 0x4 ∷ 0x5 ∷ 0x6 ∷ 0x8 ∷ 0xA ∷ 0xB ∷ 0xC ∷ []
+
+-- the operations that make no access, A, B and C being 0 (000 1.11)
+unfoldable pub freeOperations : List ℕ
+freeOperations =
+    0x00 ∷ 0x02 ∷ 0x04 ∷ 0x05 ∷ 0x06 ∷ 0x08 ∷ 0x09 ∷ 0x0A ∷ 0x0C ∷ 0x10 ∷ 0x13 ∷ 0x16
+    ∷ 0x17 ∷ 0x18 ∷ 0x19 ∷ 0x1A ∷ 0x1B ∷ 0x1C ∷ 0x1D ∷ 0x1E ∷ 0x1F ∷ 0x22 ∷ 0x29 ∷ 0x2A
+    ∷ 0x2C ∷ 0x31 ∷ 0x32 ∷ 0x33 ∷ 0x34 ∷ 0x35 ∷ 0x36 ∷ 0x37 ∷ 0x38 ∷ 0x3A ∷ 0x3C ∷ 0x3F
+    ∷ 0x40 ∷ 0x41 ∷ 0x42 ∷ 0x46 ∷ 0x4B ∷ 0x4C ∷ 0x4D ∷ 0x4F ∷ 0x50 ∷ 0x52 ∷ 0x53 ∷ 0x54
+    ∷ 0x55 ∷ 0x56 ∷ 0x57 ∷ 0x58 ∷ 0x59
+    ∷ []
+
+-- each of these functions, then each of these operations (000 1.11)
+unfoldable pub spared : List ℕ → List ℕ → List Bool
+spared [] [] = []
+spared [] (code ∷ codes) = spares (op code) [] ∷ spared [] codes
+spared (f ∷ fs) codes = spares (f, 0) [] ∷ spared fs codes
+
+-- what makes no access, or none through Wptr: ldnl, stnl, lb, sb, saveh, savel, move of 0 bytes, resetch, endp, lend (000 1.11)
+unfoldable pub freeSites : List Bool
+freeSites =
+    spares (0x3, 0) ((areg, lastWord .0) ∷ [])
+    ∷ spares (0xE, 0) ((areg, lastWord .0) ∷ [])
+    ∷ spares (op 0x01) ((areg, lastWord .0) ∷ [])
+    ∷ spares (op 0x3B) ((areg, lastWord .0) ∷ [])
+    ∷ spares (op 0x3E) ((areg, firstWord .0) ∷ [])
+    ∷ spares (op 0x3D) ((areg, firstWord .0) ∷ [])
+    ∷ spares (op 0x4A) []
+    ∷ spares (op 0x12) ((areg, lastWord .0) ∷ [])
+    ∷ spares (op 0x03) ((areg, firstWord .0) ∷ [])
+    ∷ spares (op 0x21) ((breg, firstWord .0) ∷ [])
+    ∷ spared freeFunctions freeOperations
