@@ -1,44 +1,34 @@
 // Channel guards (000 1.11): enable channel and disable channel.
-use crate::alternatives::state_ready;
-use loads::word_at;
-use names::AREG;
-use names::BREG;
-use names::CHANNEL_REG;
-use names::CREG;
-use names::ENABLED_BIT;
-use names::HELD_BIT;
-use names::LINK_CHANS;
-use names::MACHINE_FALSE;
-use names::NOT_PROCESS;
-use names::READY_REQUEST;
-use names::WDESC_REG;
+use crate::waits::state_ready;
+use memory::loads::word_at;
+use memory::store::load_word;
+use memory::store::r_index_word;
+use memory::store::w_index_word;
 use plan::Plan;
 use plan::lower;
 use plan::put;
 use plan::raise;
-use schedule::drop_b;
-use schedule::is_this_selected_process;
-use store::load_word;
-use store::r_index_word;
-use store::w_index_word;
+use rules::names::*;
+use scheduling::selected::drop_b;
+use scheduling::selected::is_this_selected_process;
 use words::at_word;
 use words::index_of;
 ghost use mathlib.Core.Path.{_≡_};
 ghost use Prim.Native.Nat.{_<_};
 ghost use Rattle.rules.specs.Registers as registers;
-ghost use Rattle.rules.specs.Channels as rules;
+ghost use Rattle.rules.specs.Channels as channels;
 ghost use Rattle.plan.specs.View.{view, Room, Grown};
 
 fn claim_channel(w: Plan, mem: &[u32]) -> Plan
     requires { ⌜ Room 1 w ⌝ }
-    ensures { λ r. ⌜ (view r ≡ rules.claimChannel (now (mem .entry)) (view w)) × Grown 1 w r ⌝ }
+    ensures { λ r. ⌜ (view r ≡ channels.claimChannel (now (mem .entry)) (view w)) × Grown 1 w r ⌝ }
 {
     w_index_word(w, mem, w.regs[BREG], 0, w.regs[WDESC_REG])
 }
 
 fn enbc_soft(w: Plan, mem: &[u32], content: u32) -> Plan
     requires { ⌜ Room 1 w ⌝ }
-    ensures { λ r. ⌜ (view r ≡ rules.enbcSoft (now (mem .entry)) content (view w)) × Grown 1 w r ⌝ }
+    ensures { λ r. ⌜ (view r ≡ channels.enbcSoft (now (mem .entry)) content (view w)) × Grown 1 w r ⌝ }
 {
     if content == NOT_PROCESS {
         return claim_channel(w, mem);
@@ -52,7 +42,7 @@ fn enbc_soft(w: Plan, mem: &[u32], content: u32) -> Plan
 // A byte held is ready at once; with none held enabled is set (DECISIONS 30).
 fn enbc_hard(w: Plan, mem: &[u32], c: usize) -> Plan
     requires { ⌜ (c < registers.linkChans) × Room 1 w ⌝ }
-    ensures { λ r. ⌜ (view r ≡ rules.enbcHard (now (mem .entry)) c (view w)) × Grown 1 w r ⌝ }
+    ensures { λ r. ⌜ (view r ≡ channels.enbcHard (now (mem .entry)) c (view w)) × Grown 1 w r ⌝ }
 {
     let k = CHANNEL_REG + 3 * c;
     if w.regs[k] & HELD_BIT == 0 {
@@ -63,7 +53,7 @@ fn enbc_hard(w: Plan, mem: &[u32], c: usize) -> Plan
 
 fn enbc_channel(w: Plan, mem: &[u32]) -> Plan
     requires { ⌜ Room 1 w ⌝ }
-    ensures { λ r. ⌜ (view r ≡ rules.enbcChannel (now (mem .entry)) (view w)) × Grown 1 w r ⌝ }
+    ensures { λ r. ⌜ (view r ≡ channels.enbcChannel (now (mem .entry)) (view w)) × Grown 1 w r ⌝ }
 {
     let number = index_of(w.regs[BREG]);
     if number < LINK_CHANS {
@@ -76,7 +66,7 @@ fn enbc_channel(w: Plan, mem: &[u32]) -> Plan
 
 fn enbc_guard(w: Plan, mem: &[u32]) -> Plan
     requires { ⌜ Room 1 w ⌝ }
-    ensures { λ r. ⌜ (view r ≡ rules.enbcGuard (now (mem .entry)) (view w)) × Grown 1 w r ⌝ }
+    ensures { λ r. ⌜ (view r ≡ channels.enbcGuard (now (mem .entry)) (view w)) × Grown 1 w r ⌝ }
 {
     if w.regs[AREG] == MACHINE_FALSE {
         return w;
@@ -86,14 +76,14 @@ fn enbc_guard(w: Plan, mem: &[u32]) -> Plan
 
 pub fn enbc(w: Plan, mem: &[u32]) -> Plan
     requires { ⌜ Room 1 w ⌝ }
-    ensures { λ r. ⌜ (view r ≡ rules.enbc (now (mem .entry)) (view w)) × Grown 1 w r ⌝ }
+    ensures { λ r. ⌜ (view r ≡ channels.enbc (now (mem .entry)) (view w)) × Grown 1 w r ⌝ }
 {
     drop_b(enbc_guard(w, mem))
 }
 
 fn disclaim(w: Plan, mem: &[u32]) -> Plan
     requires { ⌜ Room 1 w ⌝ }
-    ensures { λ r. ⌜ (view r ≡ rules.disclaim (now (mem .entry)) (view w)) × Grown 1 w r ⌝ }
+    ensures { λ r. ⌜ (view r ≡ channels.disclaim (now (mem .entry)) (view w)) × Grown 1 w r ⌝ }
 {
     put(
         w_index_word(w, mem, w.regs[CREG], 0, NOT_PROCESS),
@@ -104,7 +94,7 @@ fn disclaim(w: Plan, mem: &[u32]) -> Plan
 
 fn disc_soft(w: Plan, mem: &[u32]) -> Plan
     requires { ⌜ Room 1 w ⌝ }
-    ensures { λ r. ⌜ (view r ≡ rules.discSoft (now (mem .entry)) (view w)) × Grown 1 w r ⌝ }
+    ensures { λ r. ⌜ (view r ≡ channels.discSoft (now (mem .entry)) (view w)) × Grown 1 w r ⌝ }
 {
     if w.regs[BREG] == NOT_PROCESS {
         return put(w, AREG, MACHINE_FALSE);
@@ -118,7 +108,7 @@ fn disc_soft(w: Plan, mem: &[u32]) -> Plan
 // Ready exactly when a byte is held (DECISIONS 30).
 fn disc_answer(w: Plan, mem: &[u32], c: usize) -> Plan
     requires { ⌜ (c < registers.linkChans) × Room 1 w ⌝ }
-    ensures { λ r. ⌜ (view r ≡ rules.discAnswer (now (mem .entry)) c (view w)) × Grown 1 w r ⌝ }
+    ensures { λ r. ⌜ (view r ≡ channels.discAnswer (now (mem .entry)) c (view w)) × Grown 1 w r ⌝ }
 {
     let k = CHANNEL_REG + 3 * c;
     if w.regs[k] & HELD_BIT == 0 {
@@ -129,7 +119,7 @@ fn disc_answer(w: Plan, mem: &[u32], c: usize) -> Plan
 
 fn disc_hard(w: Plan, mem: &[u32], c: usize) -> Plan
     requires { ⌜ (c < registers.linkChans) × Room 2 w ⌝ }
-    ensures { λ r. ⌜ (view r ≡ rules.discHard (now (mem .entry)) c (view w)) × Grown 2 w r ⌝ }
+    ensures { λ r. ⌜ (view r ≡ channels.discHard (now (mem .entry)) c (view w)) × Grown 2 w r ⌝ }
 {
     let k = CHANNEL_REG + 3 * c;
     let cleared = w_index_word(w, mem, w.regs[CREG], 0, NOT_PROCESS);
@@ -139,7 +129,7 @@ fn disc_hard(w: Plan, mem: &[u32], c: usize) -> Plan
 // On a soft channel B is left with the channel word (DECISIONS 11).
 fn disc_channel(w: Plan, mem: &[u32]) -> Plan
     requires { ⌜ Room 2 w ⌝ }
-    ensures { λ r. ⌜ (view r ≡ rules.discChannel (now (mem .entry)) (view w)) × Grown 2 w r ⌝ }
+    ensures { λ r. ⌜ (view r ≡ channels.discChannel (now (mem .entry)) (view w)) × Grown 2 w r ⌝ }
 {
     let number = index_of(w.regs[CREG]);
     if number < LINK_CHANS {
@@ -150,7 +140,7 @@ fn disc_channel(w: Plan, mem: &[u32]) -> Plan
 
 pub fn disc(w: Plan, mem: &[u32]) -> Plan
     requires { ⌜ Room 2 w ⌝ }
-    ensures { λ r. ⌜ (view r ≡ rules.disc (now (mem .entry)) (view w)) × Grown 2 w r ⌝ }
+    ensures { λ r. ⌜ (view r ≡ channels.disc (now (mem .entry)) (view w)) × Grown 2 w r ⌝ }
 {
     if w.regs[BREG] == MACHINE_FALSE {
         return put(w, AREG, MACHINE_FALSE);

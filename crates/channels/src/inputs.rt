@@ -1,34 +1,29 @@
 // PROC Input (000 1.10): A is the count, B the channel, C the pointer.
+use crate::hard::hard_input;
 use crate::soft::move_message;
 use crate::soft::soft_wait;
-use hard::hard_input;
-use loads::word_at;
-use names::BREG;
-use names::CREG;
-use names::LINK_CHANS;
-use names::NOT_PROCESS;
-use names::POINTER_S;
-use names::WPTR_MASK;
+use memory::loads::word_at;
+use memory::store::load_word;
+use memory::store::w_index_word;
 use plan::Plan;
 use plan::put;
-use store::load_word;
-use store::w_index_word;
+use rules::names::*;
 use words::at_word;
 use words::index_of;
 ghost use mathlib.Core.Path.{_≡_};
-ghost use Rattle.rules.specs.Channels as rules;
+ghost use Rattle.rules.specs.Channels as channels;
 ghost use Rattle.plan.specs.View.{view, Room, Grown, Ended};
 
 // The registers for a message from the partner's pointer.
 fn input_regs(w: Plan, source: u32) -> Plan
-    ensures { λ r. ⌜ (view r ≡ rules.inputRegs source (view w)) × Grown 0 w r ⌝ }
+    ensures { λ r. ⌜ (view r ≡ channels.inputRegs source (view w)) × Grown 0 w r ⌝ }
 {
     put(put(w, BREG, w.regs[CREG]), CREG, source)
 }
 
 fn input_ready(w: Plan, mem: &[u32], descriptor: u32) -> Plan
     requires { ⌜ Room 7 w × (w .count ≡ 0) ⌝ }
-    ensures { λ r. ⌜ (view r ≡ rules.inputReady (now (mem .entry)) descriptor (view w)) × Ended 7 w r ⌝ }
+    ensures { λ r. ⌜ (view r ≡ channels.inputReady (now (mem .entry)) descriptor (view w)) × Ended 7 w r ⌝ }
 {
     let a = at_word(descriptor & WPTR_MASK, POINTER_S);
     let source = word_at(w, mem, a);
@@ -37,7 +32,7 @@ fn input_ready(w: Plan, mem: &[u32], descriptor: u32) -> Plan
 
 fn soft_input(w: Plan, mem: &[u32], descriptor: u32) -> Plan
     requires { ⌜ Room 8 w × (w .count ≡ 0) ⌝ }
-    ensures { λ r. ⌜ (view r ≡ rules.softInput (now (mem .entry)) descriptor (view w)) × Ended 8 w r ⌝ }
+    ensures { λ r. ⌜ (view r ≡ channels.softInput (now (mem .entry)) descriptor (view w)) × Ended 8 w r ⌝ }
 {
     if descriptor == NOT_PROCESS {
         return soft_wait(w, mem);
@@ -51,7 +46,7 @@ fn soft_input(w: Plan, mem: &[u32], descriptor: u32) -> Plan
 
 pub fn input(w: Plan, mem: &[u32]) -> Plan
     requires { ⌜ Room 8 w × (w .count ≡ 0) ⌝ }
-    ensures { λ r. ⌜ (view r ≡ rules.input (now (mem .entry)) (view w)) × Ended 8 w r ⌝ }
+    ensures { λ r. ⌜ (view r ≡ channels.input (now (mem .entry)) (view w)) × Ended 8 w r ⌝ }
 {
     let number = index_of(w.regs[BREG]);
     if number < LINK_CHANS {

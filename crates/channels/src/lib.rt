@@ -1,13 +1,6 @@
-// Input, output and channel requests of 000 (1.8, 1.10, 1.11) on a plan: each function is the code of a definition of
-// rules/specs/Channels.antt, its calls nested as there. Channels 0 to 8 are hard (01, Links, clocks, slice), and the
-// crate hard starts their transfers; every other word of memory can be a soft one.
-pub mod requests; // HandleChannelRequest
-pub mod soft; // the wait for a partner, and the message
-pub mod inputs; // in
-pub mod outputs; // out, outword, outbyte
-
-pub use inputs::input;
-pub use outputs::outbyte;
-pub use outputs::output;
-pub use outputs::outword;
-pub use requests::handle_channel_request;
+// HEAD channels
+pub mod hard; // Hard channels: the transfer of a link or of the event channel is started, or reset (000 1.10, 1.11; 01, Links,
+pub mod soft; // What input and output on soft channels share (000 1.10): the wait for a partner, and the message to or from one.
+pub mod inputs; // PROC Input (000 1.10): A is the count, B the channel, C the pointer.
+pub mod outputs; // PROC Output (000 1.10): A is the count, B the channel, C the pointer; and the operations that send a word or a byte of the workspace.
+pub mod requests; // PROC HandleChannelRequest (000 1.8). Which channel has a request is asked in the crate asking.

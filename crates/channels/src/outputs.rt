@@ -1,33 +1,23 @@
 // PROC Output (000 1.10): A is the count, B the channel, C the pointer; and the operations that send a word or a byte of the workspace.
+use crate::hard::hard_output;
 use crate::soft::move_message;
 use crate::soft::soft_wait;
-use hard::hard_output;
-use loads::word_at;
-use names::AREG;
-use names::BREG;
-use names::CREG;
-use names::ENABLING;
-use names::LINK_CHANS;
-use names::NOT_PROCESS;
-use names::POINTER_S;
-use names::READY;
-use names::WAITING;
-use names::WDESC_REG;
-use names::WPTR_MASK;
+use memory::loads::word_at;
+use memory::store::load_word;
+use memory::store::w_index_word;
 use plan::Plan;
 use plan::put;
-use schedule::run;
-use store::load_word;
-use store::w_index_word;
+use rules::names::*;
+use scheduling::running::run;
 use words::at_word;
 use words::index_of;
 ghost use mathlib.Core.Path.{_≡_};
-ghost use Rattle.rules.specs.Channels as rules;
+ghost use Rattle.rules.specs.Channels as channels;
 ghost use Rattle.plan.specs.View.{view, Room, Grown, Ended};
 
 fn output_message(w: Plan, mem: &[u32], descriptor: u32, target: u32) -> Plan
     requires { ⌜ Room 8 w × (w .count ≡ 0) ⌝ }
-    ensures { λ r. ⌜ (view r ≡ rules.outputMessage (now (mem .entry)) descriptor target (view w)) × Ended 8 w r ⌝ }
+    ensures { λ r. ⌜ (view r ≡ channels.outputMessage (now (mem .entry)) descriptor target (view w)) × Ended 8 w r ⌝ }
 {
     let cleared = w_index_word(w, mem, w.regs[BREG], 0, NOT_PROCESS);
     move_message(put(cleared, BREG, target), mem, descriptor)
@@ -36,7 +26,7 @@ fn output_message(w: Plan, mem: &[u32], descriptor: u32, target: u32) -> Plan
 // The scheduler's interlock for ALT.
 fn output_enabling(w: Plan, mem: &[u32], descriptor: u32) -> Plan
     requires { ⌜ Room 4 w ⌝ }
-    ensures { λ r. ⌜ (view r ≡ rules.outputEnabling (now (mem .entry)) descriptor (view w)) × Grown 4 w r ⌝ }
+    ensures { λ r. ⌜ (view r ≡ channels.outputEnabling (now (mem .entry)) descriptor (view w)) × Grown 4 w r ⌝ }
 {
     soft_wait(
         w_index_word(w, mem, descriptor & WPTR_MASK, POINTER_S, READY),
@@ -46,14 +36,14 @@ fn output_enabling(w: Plan, mem: &[u32], descriptor: u32) -> Plan
 
 fn output_waiting(w: Plan, mem: &[u32], descriptor: u32) -> Plan
     requires { ⌜ Room 11 w ⌝ }
-    ensures { λ r. ⌜ (view r ≡ rules.outputWaiting (now (mem .entry)) descriptor (view w)) × Grown 11 w r ⌝ }
+    ensures { λ r. ⌜ (view r ≡ channels.outputWaiting (now (mem .entry)) descriptor (view w)) × Grown 11 w r ⌝ }
 {
     run(output_enabling(w, mem, descriptor), mem, descriptor)
 }
 
 fn output_to(w: Plan, mem: &[u32], descriptor: u32, target: u32) -> Plan
     requires { ⌜ Room 11 w × (w .count ≡ 0) ⌝ }
-    ensures { λ r. ⌜ (view r ≡ rules.outputTo (now (mem .entry)) descriptor target (view w)) × Ended 11 w r ⌝ }
+    ensures { λ r. ⌜ (view r ≡ channels.outputTo (now (mem .entry)) descriptor target (view w)) × Ended 11 w r ⌝ }
 {
     if target == ENABLING {
         return output_enabling(w, mem, descriptor);
@@ -69,7 +59,7 @@ fn output_to(w: Plan, mem: &[u32], descriptor: u32, target: u32) -> Plan
 
 fn output_ready(w: Plan, mem: &[u32], descriptor: u32) -> Plan
     requires { ⌜ Room 11 w × (w .count ≡ 0) ⌝ }
-    ensures { λ r. ⌜ (view r ≡ rules.outputReady (now (mem .entry)) descriptor (view w)) × Ended 11 w r ⌝ }
+    ensures { λ r. ⌜ (view r ≡ channels.outputReady (now (mem .entry)) descriptor (view w)) × Ended 11 w r ⌝ }
 {
     let a = at_word(descriptor & WPTR_MASK, POINTER_S);
     let target = word_at(w, mem, a);
@@ -78,7 +68,7 @@ fn output_ready(w: Plan, mem: &[u32], descriptor: u32) -> Plan
 
 fn soft_output(w: Plan, mem: &[u32], descriptor: u32) -> Plan
     requires { ⌜ Room 11 w × (w .count ≡ 0) ⌝ }
-    ensures { λ r. ⌜ (view r ≡ rules.softOutput (now (mem .entry)) descriptor (view w)) × Ended 11 w r ⌝ }
+    ensures { λ r. ⌜ (view r ≡ channels.softOutput (now (mem .entry)) descriptor (view w)) × Ended 11 w r ⌝ }
 {
     if descriptor == NOT_PROCESS {
         return soft_wait(w, mem);
@@ -88,7 +78,7 @@ fn soft_output(w: Plan, mem: &[u32], descriptor: u32) -> Plan
 
 pub fn output(w: Plan, mem: &[u32]) -> Plan
     requires { ⌜ Room 11 w × (w .count ≡ 0) ⌝ }
-    ensures { λ r. ⌜ (view r ≡ rules.output (now (mem .entry)) (view w)) × Ended 11 w r ⌝ }
+    ensures { λ r. ⌜ (view r ≡ channels.output (now (mem .entry)) (view w)) × Ended 11 w r ⌝ }
 {
     let number = index_of(w.regs[BREG]);
     if number < LINK_CHANS {
@@ -102,7 +92,7 @@ pub fn output(w: Plan, mem: &[u32]) -> Plan
 // A is stored in local 0, and its bytes are sent from there (DECISIONS 42).
 fn output_local(w: Plan, mem: &[u32], count: u32) -> Plan
     requires { ⌜ Room 12 w × (w .count ≡ 0) ⌝ }
-    ensures { λ r. ⌜ (view r ≡ rules.outputLocal (now (mem .entry)) count (view w)) × Ended 12 w r ⌝ }
+    ensures { λ r. ⌜ (view r ≡ channels.outputLocal (now (mem .entry)) count (view w)) × Ended 12 w r ⌝ }
 {
     let wptr = w.regs[WDESC_REG] & WPTR_MASK;
     let local = w_index_word(w, mem, wptr, 0, w.regs[AREG]);
@@ -111,14 +101,14 @@ fn output_local(w: Plan, mem: &[u32], count: u32) -> Plan
 
 pub fn outword(w: Plan, mem: &[u32]) -> Plan
     requires { ⌜ Room 12 w × (w .count ≡ 0) ⌝ }
-    ensures { λ r. ⌜ (view r ≡ rules.outword (now (mem .entry)) (view w)) × Ended 12 w r ⌝ }
+    ensures { λ r. ⌜ (view r ≡ channels.outword (now (mem .entry)) (view w)) × Ended 12 w r ⌝ }
 {
     output_local(w, mem, 4)
 }
 
 pub fn outbyte(w: Plan, mem: &[u32]) -> Plan
     requires { ⌜ Room 12 w × (w .count ≡ 0) ⌝ }
-    ensures { λ r. ⌜ (view r ≡ rules.outbyte (now (mem .entry)) (view w)) × Ended 12 w r ⌝ }
+    ensures { λ r. ⌜ (view r ≡ channels.outbyte (now (mem .entry)) (view w)) × Ended 12 w r ⌝ }
 {
     output_local(w, mem, 1)
 }

@@ -1,33 +1,23 @@
 // PROC HandleChannelRequest (000 1.8). Which channel has a request is asked in the crate asking.
-use loads::word_at;
-use names::CHANNEL_REG;
-use names::ENABLING;
-use names::NOT_PROCESS;
-use names::POINTER_S;
-use names::PORT_BASE;
-use names::READY;
-use names::READY_REQUEST;
-use names::RUN_REQUEST;
-use names::STOP;
-use names::WAITING;
-use names::WPTR_MASK;
+use memory::loads::word_at;
+use memory::store::load_word;
+use memory::store::w_index_word;
 use plan::Plan;
 use plan::lower;
 use plan::refuse;
-use schedule::run;
-use store::load_word;
-use store::w_index_word;
+use rules::names::*;
+use scheduling::running::run;
 use words::at_word;
 ghost use mathlib.Core.Path.{_≡_};
 ghost use Prim.Native.Nat.{_<_};
 ghost use Rattle.rules.specs.Registers as registers;
-ghost use Rattle.rules.specs.Channels as rules;
+ghost use Rattle.rules.specs.Channels as channels;
 ghost use Rattle.plan.specs.View.{view, Room, Grown};
 
 // After a reset there is no process to run.
 fn run_content(w: Plan, mem: &[u32], hc: usize, content: u32) -> Plan
     requires { ⌜ (hc < registers.linkChans) × Room 8 w ⌝ }
-    ensures { λ r. ⌜ (view r ≡ rules.runContent (now (mem .entry)) hc content (view w)) × Grown 8 w r ⌝ }
+    ensures { λ r. ⌜ (view r ≡ channels.runContent (now (mem .entry)) hc content (view w)) × Grown 8 w r ⌝ }
 {
     if content == NOT_PROCESS {
         return w;
@@ -41,7 +31,7 @@ fn run_content(w: Plan, mem: &[u32], hc: usize, content: u32) -> Plan
 
 fn handle_run_request(w: Plan, mem: &[u32], hc: usize) -> Plan
     requires { ⌜ (hc < registers.linkChans) × Room 8 w ⌝ }
-    ensures { λ r. ⌜ (view r ≡ rules.handleRunRequest (now (mem .entry)) hc (view w)) × Grown 8 w r ⌝ }
+    ensures { λ r. ⌜ (view r ≡ channels.handleRunRequest (now (mem .entry)) hc (view w)) × Grown 8 w r ⌝ }
 {
     let a = at_word(PORT_BASE, hc as u32);
     let content = word_at(w, mem, a);
@@ -50,7 +40,7 @@ fn handle_run_request(w: Plan, mem: &[u32], hc: usize) -> Plan
 
 fn ready_waiting(w: Plan, mem: &[u32], content: u32) -> Plan
     requires { ⌜ Room 8 w ⌝ }
-    ensures { λ r. ⌜ (view r ≡ rules.readyWaiting (now (mem .entry)) content (view w)) × Grown 8 w r ⌝ }
+    ensures { λ r. ⌜ (view r ≡ channels.readyWaiting (now (mem .entry)) content (view w)) × Grown 8 w r ⌝ }
 {
     run(
         w_index_word(w, mem, content & WPTR_MASK, POINTER_S, READY),
@@ -62,7 +52,7 @@ fn ready_waiting(w: Plan, mem: &[u32], content: u32) -> Plan
 // An IF of 000 with three branches: any other status is a Stop.
 fn ready_status(w: Plan, mem: &[u32], content: u32, status: u32) -> Plan
     requires { ⌜ Room 8 w ⌝ }
-    ensures { λ r. ⌜ (view r ≡ rules.readyStatus (now (mem .entry)) content status (view w)) × Grown 8 w r ⌝ }
+    ensures { λ r. ⌜ (view r ≡ channels.readyStatus (now (mem .entry)) content status (view w)) × Grown 8 w r ⌝ }
 {
     if status == ENABLING {
         return w_index_word(w, mem, content & WPTR_MASK, POINTER_S, READY);
@@ -78,7 +68,7 @@ fn ready_status(w: Plan, mem: &[u32], content: u32, status: u32) -> Plan
 
 fn ready_content(w: Plan, mem: &[u32], content: u32) -> Plan
     requires { ⌜ Room 8 w ⌝ }
-    ensures { λ r. ⌜ (view r ≡ rules.readyContent (now (mem .entry)) content (view w)) × Grown 8 w r ⌝ }
+    ensures { λ r. ⌜ (view r ≡ channels.readyContent (now (mem .entry)) content (view w)) × Grown 8 w r ⌝ }
 {
     let a = at_word(content & WPTR_MASK, POINTER_S);
     let status = word_at(w, mem, a);
@@ -87,7 +77,7 @@ fn ready_content(w: Plan, mem: &[u32], content: u32) -> Plan
 
 fn handle_ready_request(w: Plan, mem: &[u32], hc: usize) -> Plan
     requires { ⌜ (hc < registers.linkChans) × Room 8 w ⌝ }
-    ensures { λ r. ⌜ (view r ≡ rules.handleReadyRequest (now (mem .entry)) hc (view w)) × Grown 8 w r ⌝ }
+    ensures { λ r. ⌜ (view r ≡ channels.handleReadyRequest (now (mem .entry)) hc (view w)) × Grown 8 w r ⌝ }
 {
     let a = at_word(PORT_BASE, hc as u32);
     let content = word_at(w, mem, a);
@@ -97,7 +87,7 @@ fn handle_ready_request(w: Plan, mem: &[u32], hc: usize) -> Plan
 // The run request is served before the ready request, and that bit is cleared.
 pub fn handle_channel_request(w: Plan, mem: &[u32], hc: usize) -> Plan
     requires { ⌜ (hc < registers.linkChans) × Room 8 w ⌝ }
-    ensures { λ r. ⌜ (view r ≡ rules.handleChannelRequest (now (mem .entry)) hc (view w)) × Grown 8 w r ⌝ }
+    ensures { λ r. ⌜ (view r ≡ channels.handleChannelRequest (now (mem .entry)) hc (view w)) × Grown 8 w r ⌝ }
 {
     let k = CHANNEL_REG + 3 * hc;
     if w.regs[k] & RUN_REQUEST == 0 {

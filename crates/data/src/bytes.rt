@@ -1,19 +1,17 @@
 // Single bytes.
-use names::AREG;
-use names::BREG;
-use names::CREG;
+use memory::store::r_index_byte;
+use memory::store::store_byte;
 use plan::Plan;
 use plan::put;
-use store::r_index_byte;
-use store::store_byte;
+use rules::names::*;
 ghost use mathlib.Core.Path.{_≡_};
 ghost use Rattle.plan.specs.View.{view, Room, Grown};
-ghost use Rattle.rules.specs.Data as rules;
+ghost use Rattle.rules.specs.Data as dataRules;
 
 // Load byte.
 pub fn lb(w: Plan, mem: &[u32]) -> Plan
     requires { ⌜ Room 0 w ⌝ }
-    ensures { λ r. ⌜ (view r ≡ rules.lb (now (mem .entry)) (view w)) × Grown 0 w r ⌝ }
+    ensures { λ r. ⌜ (view r ≡ dataRules.lb (now (mem .entry)) (view w)) × Grown 0 w r ⌝ }
 {
     r_index_byte(w, mem, w.regs[AREG], AREG)
 }
@@ -21,7 +19,7 @@ pub fn lb(w: Plan, mem: &[u32]) -> Plan
 // Store byte: Breg and Creg keep their values.
 pub fn sb(w: Plan, mem: &[u32]) -> Plan
     requires { ⌜ Room 1 w ⌝ }
-    ensures { λ r. ⌜ (view r ≡ rules.sb (now (mem .entry)) (view w)) × Grown 1 w r ⌝ }
+    ensures { λ r. ⌜ (view r ≡ dataRules.sb (now (mem .entry)) (view w)) × Grown 1 w r ⌝ }
 {
     let c = w.regs[CREG];
     put(

@@ -1,24 +1,19 @@
 // Words loaded and stored by the operand, from Wptr or from Areg.
-use names::AREG;
-use names::BREG;
-use names::CREG;
-use names::OREG;
-use names::WDESC_REG;
-use names::WPTR_MASK;
+use memory::store::r_index_word;
+use memory::store::w_index_word;
 use plan::Plan;
+use plan::operands::popped;
+use plan::operands::pushed;
 use plan::put;
-use plan_stack::popped;
-use plan_stack::pushed;
-use store::r_index_word;
-use store::w_index_word;
+use rules::names::*;
 ghost use mathlib.Core.Path.{_≡_};
 ghost use Rattle.plan.specs.View.{view, Room, Grown};
-ghost use Rattle.rules.specs.Data as rules;
+ghost use Rattle.rules.specs.Data as dataRules;
 
 // Load local.
 pub fn ldl(w: Plan, mem: &[u32]) -> Plan
     requires { ⌜ Room 0 w ⌝ }
-    ensures { λ r. ⌜ (view r ≡ rules.ldl (now (mem .entry)) (view w)) × Grown 0 w r ⌝ }
+    ensures { λ r. ⌜ (view r ≡ dataRules.ldl (now (mem .entry)) (view w)) × Grown 0 w r ⌝ }
 {
     r_index_word(
         pushed(w),
@@ -32,7 +27,7 @@ pub fn ldl(w: Plan, mem: &[u32]) -> Plan
 // Store local.
 pub fn stl(w: Plan, mem: &[u32]) -> Plan
     requires { ⌜ Room 1 w ⌝ }
-    ensures { λ r. ⌜ (view r ≡ rules.stl (now (mem .entry)) (view w)) × Grown 1 w r ⌝ }
+    ensures { λ r. ⌜ (view r ≡ dataRules.stl (now (mem .entry)) (view w)) × Grown 1 w r ⌝ }
 {
     let wptr = w.regs[WDESC_REG] & WPTR_MASK;
     popped(w_index_word(w, mem, wptr, w.regs[OREG], w.regs[AREG]))
@@ -41,7 +36,7 @@ pub fn stl(w: Plan, mem: &[u32]) -> Plan
 // Load non-local.
 pub fn ldnl(w: Plan, mem: &[u32]) -> Plan
     requires { ⌜ Room 0 w ⌝ }
-    ensures { λ r. ⌜ (view r ≡ rules.ldnl (now (mem .entry)) (view w)) × Grown 0 w r ⌝ }
+    ensures { λ r. ⌜ (view r ≡ dataRules.ldnl (now (mem .entry)) (view w)) × Grown 0 w r ⌝ }
 {
     r_index_word(w, mem, w.regs[AREG], w.regs[OREG], AREG)
 }
@@ -49,7 +44,7 @@ pub fn ldnl(w: Plan, mem: &[u32]) -> Plan
 // Store non-local: Breg and Creg keep their values.
 pub fn stnl(w: Plan, mem: &[u32]) -> Plan
     requires { ⌜ Room 1 w ⌝ }
-    ensures { λ r. ⌜ (view r ≡ rules.stnl (now (mem .entry)) (view w)) × Grown 1 w r ⌝ }
+    ensures { λ r. ⌜ (view r ≡ dataRules.stnl (now (mem .entry)) (view w)) × Grown 1 w r ⌝ }
 {
     let c = w.regs[CREG];
     put(

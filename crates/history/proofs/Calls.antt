@@ -1,5 +1,5 @@
 -- The machine t414 does what the calls of `rules` do, with their checks in their order: 1, 3, 4, the call's own, 12; undo: 1, 4, 5, 4.
--- Assumes nothing.
+--
 use mathlib.Core.Path.{_≡_, refl, ap, _∙_}
 use mathlib.Core.Bool.{Bool, true, false, _||_}
 use mathlib.Core.List.{List, [], _∷_}

@@ -1,6 +1,6 @@
 -- Depth and used are counted, not invented: an accepted step, tick, take, give or event adds one to depth, and to used the length of its record, 46
 -- words and two for each memory word stored to; an accepted undo takes one from depth, and the last record's length from used; an accepted fresh or
--- clear leaves both 0. Assumes nothing.
+-- clear leaves both 0.
 use mathlib.Core.Path.{_≡_, refl, sym, subst}
 use mathlib.Core.Bool.{Bool}
 use mathlib.Core.List.{List}

@@ -5,7 +5,7 @@
 --    answered exactly when 01's condition of n holds and that of no number before it; depth and used are counted by the records.
 -- 3. REVERSIBLE. After any sequence the machine is what the accepted calls that have not been undone give; undoing leads back through it.
 --
--- Assumes nothing.
+--
 use mathlib.Core.Path.{_≡_}
 use mathlib.Core.Logic.{_↔_}
 use mathlib.Core.List.{List, [], _++_}

@@ -1,5 +1,5 @@
 -- Refusing exactly: a call answers n exactly when the condition of n in 01's table holds and that of no number before it; it is accepted exactly
--- when none holds. Each number's condition is a definition of its own (crates/refusals/specs/Conditions.antt). Assumes nothing.
+-- when none holds. Each number's condition is a definition of its own (crates/refusals/specs/Conditions.antt).
 use mathlib.Core.Path.{_≡_, refl, sym, ap, subst, _∙_}
 use mathlib.Core.Logic.{_↔_}
 use mathlib.Core.Bool.{Bool, true, false}

@@ -1,5 +1,5 @@
 -- 01's line of code 41 81 (Numbers at the edges), by computation: two steps give A = 2, used 92; undo gives A = 1, used 46; a third undo gives 5.
--- On a memory of 64 words and a journal of 92. Assumes nothing.
+-- On a memory of 64 words and a journal of 92.
 use mathlib.Core.Path.{_≡_, refl}
 use mathlib.Core.List.{List, [], _∷_}
 use Prim.Native.Nat.{ℕ}

@@ -1,5 +1,5 @@
 -- DEMAND 3 OF FUNCTIONS: any eight functions that meet the contracts satisfy it, by the history over chains of contracts. And there are such
--- functions, so that nothing said of functions that meet the contracts holds for lack of one. Assumes nothing.
+-- functions, so that nothing said of functions that meet the contracts holds for lack of one.
 use mathlib.Core.Path.{_≡_, sym, ap, subst, _∙_}
 use mathlib.Core.List.{List, [], _∷_}
 use Prim.Native.Nat.{ℕ, _≤_}

@@ -1,5 +1,5 @@
 -- The history theorem over any machine whose records are sound (`Laws`): after any list of calls and undos, what shows of the state is what
--- shows once the standing calls alone are made, in order; and undoing n times brings back what showed at an earlier moment. Assumes nothing.
+-- shows once the standing calls alone are made, in order; and undoing n times brings back what showed at an earlier moment.
 use mathlib.Core.Path.{_≡_, refl, sym, ap, _∙_}
 use mathlib.Core.Logic.{_⊎_, inl, inr, ⊎-elim}
 use mathlib.Core.List.{List, [], _∷_, _++_}

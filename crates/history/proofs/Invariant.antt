@@ -1,5 +1,5 @@
 -- The invariant of the history theorem, over any machine whose records are sound (`Laws`): the words in use are the records of the calls that
--- stand. Calls, undos and calls made again keep it. And the law of undo. Assumes nothing.
+-- stand. Calls, undos and calls made again keep it. And the law of undo.
 use mathlib.Core.Path.{_≡_, refl, sym, ap, subst, _∙_}
 use mathlib.Core.Bool.{Bool, true, false}
 use mathlib.Core.List.{List, [], _∷_, _++_, reverseAux, map}

@@ -1,5 +1,5 @@
 -- A contract that leaves one thing open has two results: memory, journal, registers, depth, used, byte or answer, of each of the eight, from any
--- machine of 45 registers and any memory and journal of a word at least. Assumes nothing.
+-- machine of 45 registers and any memory and journal of a word at least.
 use mathlib.Core.Path.{_≡_, refl, sym, ap, _∙_}
 use mathlib.Core.List.{List}
 use Prim.Native.Nat.{ℕ, _-_, _<_}

@@ -1,5 +1,5 @@
 -- 10 and 11 of a step, of its contract: an answer 10 comes with the access that was refused, at an address outside memory; a result that is not 10,
--- in a memory of 64 words or more, is the result with any words appended, up to 16,384 in all; and 11 is answered exactly where the step Stops. Assumes nothing.
+-- in a memory of 64 words or more, is the result with any words appended, up to 16,384 in all; and 11 is answered exactly where the step Stops.
 use mathlib.Core.Path.{_≡_, sym, ap, _∙_}
 use mathlib.Core.Logic.{_↔_}
 use mathlib.Core.Bool.{true, false}

@@ -1,5 +1,5 @@
 -- THE HISTORY, over chains of the public functions' contracts (01, demand 3): from any fresh machine and any list of steps, ticks, takes, gives,
--- events and undos, some refused, each handed what the one before left. By the history theorem of the rules (crate history). Assumes nothing.
+-- events and undos, some refused, each handed what the one before left. By the history theorem of the rules (crate history).
 use mathlib.Core.Path.{_≡_, refl, sym, ap, subst, _∙_}
 use mathlib.Core.List.{List, [], _∷_, _++_}
 use Prim.Native.Nat.{ℕ, zero, suc, _+_, _-_, _≤_}

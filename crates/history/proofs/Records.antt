@@ -1,4 +1,4 @@
--- Reading the last record back: its number of pairs, its registers, its pairs, and memory with the pairs written back. Assumes nothing.
+-- Reading the last record back: its number of pairs, its registers, its pairs, and memory with the pairs written back.
 use mathlib.Core.Path.{_≡_, refl, sym, ap, _∙_}
 use mathlib.Core.Bool.{false}
 use mathlib.Core.List.{List, [], _∷_, _++_, append-assoc}

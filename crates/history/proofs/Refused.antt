@@ -1,10 +1,9 @@
 -- Refusing cleanly: a refused call hands byte 0 back and leaves registers, depth, used, memory and journal as they were; after a refused fresh
--- the machine is all 0. Assumes nothing.
-use mathlib.Core.Path.{_≡_, sym, ap, _∙_}
+-- the machine is all 0.
+use mathlib.Core.Path.{_≡_, ap, _∙_}
 use mathlib.Core.List.{List}
 use Prim.Native.Nat.{ℕ}
 use Rattle.rules.specs.Calls.{Outcome, outcomeOf, refused, noMachine}
-use Rattle.rules.specs.Calls as rules
 use Rattle.rules.specs.declared.Machine.{Machine}
 use Rattle.rules.specs.declared.Reply.{Reply}
 use Rattle.laws.specs.Calls.{Refusing}

@@ -1,5 +1,5 @@
 -- The records of our calls are sound: registers stay 45, the last record gives registers and memory before it back, and the checks of the
--- journal never stand before the undo of an accepted call. Assumes nothing.
+-- journal never stand before the undo of an accepted call.
 use mathlib.Core.Path.{_≡_, refl}
 use mathlib.Core.Bool.{Bool, true, false, _||_}
 use mathlib.Core.List.{List, _++_}

@@ -1,6 +1,6 @@
 -- THE HISTORY THEOREM of our calls (01, What the contracts have to say: demand 3). From fresh, after any sequence of steps, ticks, link bytes,
 -- events and undos, the state is what the accepted calls that are not undone give, in order; undoing n calls gives back registers, memory,
--- depth and used as before them. For any memory, journal and code, and any journal contents. Assumes nothing.
+-- depth and used as before them. For any memory, journal and code, and any journal contents.
 use mathlib.Core.Path.{_≡_, refl, sym, ap, _∙_}
 use mathlib.Core.Bool.{Bool, true, false}
 use mathlib.Core.List.{List, [], _++_}

@@ -1,5 +1,5 @@
 -- One answer only: two results that meet the contract of a public function from the same inputs are the same in answer, byte, registers, depth,
--- used and every lent word. And some result meets it. Assumes nothing.
+-- used and every lent word. And some result meets it.
 use mathlib.Core.Path.{_≡_, ap}
 use mathlib.Core.List.{List}
 use Prim.Native.Nat.{ℕ, _≤_}

@@ -1,5 +1,5 @@
 -- Worked runs by computation, from fresh with code 41 81 (01, Numbers at the edges), on a memory of 64 words and a journal of 92: refused calls, a
--- refused undo and a full journal among them. Assumes nothing.
+-- refused undo and a full journal among them.
 use mathlib.Core.Path.{_≡_, refl}
 use mathlib.Core.List.{List, [], _∷_}
 use Prim.Native.Nat.{ℕ}
@@ -7,7 +7,7 @@ use lib.ListN.{getD, replicate}
 use Rattle.rules.specs.Tests.{ifLt, ifLe, ifEq}
 use Rattle.rules.specs.Words.{sign, restoreToRange, overflows}
 use Rattle.rules.specs.Core.{overflowCheck}
-use Rattle.rules.specs.Registers.{areg, iptrReg, coreOf, withCore}
+use Rattle.rules.specs.Registers.{areg, coreOf, withCore}
 use Rattle.rules.specs.Memory.{stores, storing, hit, touched, touchedFrom}
 use Rattle.rules.specs.Work.{put, raise, lower, putCore, refuseAt, wordAt, byteAt, access}
 use Rattle.rules.specs.Scheduling.{actOnSNP, j, timeSlice, sliceIfRunning}
@@ -20,7 +20,7 @@ use Rattle.rules.specs.Journal.{olds, recordOf, frameBad, lastPairs, lastStart,
 use Rattle.rules.specs.Calls.{memoryBad, journalBad, sizeBad, codeBad, notOutput, notInput, recorded, settled, checked, undone, undoLast, codeWord, freshWord, freshMemory, freshRegs, fresh}
 use Rattle.rules.specs.Calls as rules
 use Rattle.history.specs.Machine.{Act, call, undo}
-use Rattle.history.specs.T414.{Call, step, tick, take, give, event, Whole, perform, after, run, standing}
+use Rattle.history.specs.T414.{Call, step, tick, take, give, Whole, perform, after, run, standing}
 
 abbrev pub begun : Whole
 begun = after (fresh (0x41 ∷ 0x81 ∷ []) (replicate 64 0) (replicate 92 0))

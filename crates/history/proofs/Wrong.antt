@@ -1,6 +1,6 @@
 -- Wrong answers ruled out (01, What the contracts have to say): no function that refuses always, gives one fixed answer, leaves the machine as it
 -- was, undoes nothing, or after a first step only moves Iptr, meets the contract; of eight functions with one of the last two in its place demand 3
--- does not hold, nor with a step that invents depth or used. Each by states on which the rules are computed. Assumes nothing.
+-- does not hold, nor with a step that invents depth or used. Each by states on which the rules are computed.
 use mathlib.Core.Path.{_≡_, refl, sym, ap, _∙_}
 use mathlib.Core.List.{List, [], _∷_}
 use Prim.Native.Nat.{ℕ, _+_}

@@ -1,4 +1,4 @@
--- THE LAW of undo: after any stores that were recorded, undo gives back registers, memory, depth and used. Assumes nothing.
+-- THE LAW of undo: after any stores that were recorded, undo gives back registers, memory, depth and used.
 use mathlib.Core.Path.{_≡_, _∙_}
 use mathlib.Core.Bool.{false}
 use mathlib.Core.List.{List, _++_}
@@ -15,7 +15,7 @@ use Rattle.rules.proofs.Tests.{yes-lt, no-lt, no-eq, cases-lt}
 use Rattle.laws.proofs.Stores.{length-stores}
 use Rattle.laws.proofs.Touched.{touched-below, outside-touched, length-record}
 use Rattle.history.proofs.Records.{pairsOf, strays-none, written-back, last-pairs, last-start, last-regs, last-read}
-use Rattle.frame.proofs.Frame.{frame-good, frame-is}
+use Rattle.journal_record.proofs.Frame.{frame-good, frame-is}
 
 -- an outcome that gives m and mem back and leaves the journal j
 abbrev pub givenBack : Machine → List ℕ → List ℕ → Outcome

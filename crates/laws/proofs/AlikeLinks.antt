@@ -1,4 +1,4 @@
--- What an `in` that finds something held does is the same in a longer memory. Assumes nothing.
+-- What an `in` that finds something held does is the same in a longer memory.
 use mathlib.Core.List.{List, [], _++_}
 use Prim.Native.Nat.{ℕ, _^_, _<_}
 use lib.ListN.{length}

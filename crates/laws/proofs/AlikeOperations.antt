@@ -1,4 +1,4 @@
--- Every action of the tables does the same in a longer memory, so what they look up does. Assumes nothing.
+-- Every action of the tables does the same in a longer memory, so what they look up does.
 use mathlib.Core.List.{List, _++_}
 use Prim.Native.Nat.{ℕ, _^_, _<_}
 use native.Mathlib.Omega.{arith}

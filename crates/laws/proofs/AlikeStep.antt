@@ -1,5 +1,5 @@
 -- THE LONGER MEMORY: a step in a memory, and the same step in that memory with words appended. Where the first answers 10, an access was outside; else the
--- second answers the same number, and where that is 0, its registers and stores are the same. So nothing of what lies behind memory comes into the result. Assumes nothing.
+-- second answers the same number, and where that is 0, its registers and stores are the same. So nothing of what lies behind memory comes into the result.
 use mathlib.Core.Path.{_≡_, refl}
 use mathlib.Core.List.{List, [], _++_}
 use Prim.Native.Nat.{ℕ, _/_, _^_, _≤_, _<_}

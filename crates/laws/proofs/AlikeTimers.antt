@@ -1,4 +1,4 @@
--- Every definition of Timers.antt (timer queues) does the same in a longer memory; a walk comes to a ring in both. Assumes nothing.
+-- Every definition of Timers.antt (timer queues) does the same in a longer memory; a walk comes to a ring in both.
 use mathlib.Core.Path.{_≡_, refl, sym, _∙_}
 use mathlib.Core.Logic.{_⊎_, inl, inr}
 use mathlib.Core.List.{List, [], _++_}

@@ -1,4 +1,4 @@
--- A memory with words appended: stores inside the shorter one change it alike, touch the same words and record the same. Assumes nothing.
+-- A memory with words appended: stores inside the shorter one change it alike, touch the same words and record the same.
 use mathlib.Core.Path.{_≡_, refl}
 use mathlib.Core.Bool.{true, false}
 use mathlib.Core.List.{List, [], _∷_, _++_}

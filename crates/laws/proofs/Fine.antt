@@ -1,5 +1,5 @@
 -- Work keeps its registers: there are 45 of them. And its answer, with the kind and address of its access, keeps a property that 10 has where 0 has
--- it: to be one of 01's numbers, say, or not to be 9. A refusal that comes first stays. What can Stop asks the same of 11, and so on. Assumes nothing.
+-- it: to be one of 01's numbers, say, or not to be 9. A refusal that comes first stays. What can Stop asks the same of 11, and so on.
 use mathlib.Core.Path.{_≡_, subst, _∙_}
 use mathlib.Core.List.{List}
 use Prim.Native.Nat.{ℕ, _≤_}

@@ -1,4 +1,4 @@
--- Every definition of Channels.antt (channels and alternatives) keeps work fine. Assumes nothing.
+-- Every definition of Channels.antt (channels and alternatives) keeps work fine.
 use mathlib.Core.List.{List}
 use Prim.Native.Nat.{ℕ}
 use Rattle.rules.specs.Work.{Work, stop}

@@ -1,4 +1,4 @@
--- Every definition of Data.antt (loads and stores that do not schedule) keeps work fine. Assumes nothing.
+-- Every definition of Data.antt (loads and stores that do not schedule) keeps work fine.
 use mathlib.Core.List.{List}
 use Prim.Native.Nat.{ℕ}
 use Rattle.rules.specs.Work.{Work}

@@ -1,4 +1,4 @@
--- Every definition of Links.antt (links, event and tick) keeps work fine. Assumes nothing.
+-- Every definition of Links.antt (links, event and tick) keeps work fine.
 use mathlib.Core.List.{List}
 use Prim.Native.Nat.{ℕ}
 use Rattle.rules.specs.Work.{Work, notReady}

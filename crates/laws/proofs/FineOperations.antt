@@ -1,4 +1,4 @@
--- Every action of the tables keeps work fine, so what they look up does; only a code without a row is refused with 9. Assumes nothing.
+-- Every action of the tables keeps work fine, so what they look up does; only a code without a row is refused with 9.
 use mathlib.Core.Path.{_≡_, refl, sym, ap, subst, _∙_}
 use mathlib.Core.Bool.{Bool, true, false}
 use mathlib.Core.List.{List, [], _∷_}

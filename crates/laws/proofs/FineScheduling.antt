@@ -1,4 +1,4 @@
--- Every definition of Scheduling.antt (scheduling procedures) keeps work fine. Assumes nothing.
+-- Every definition of Scheduling.antt (scheduling procedures) keeps work fine.
 use mathlib.Core.List.{List}
 use Prim.Native.Nat.{ℕ}
 use Rattle.rules.specs.Work.{Work, reg}

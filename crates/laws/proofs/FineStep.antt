@@ -1,4 +1,4 @@
--- Every definition of Step.antt (one step) keeps work fine. Assumes nothing.
+-- Every definition of Step.antt (one step) keeps work fine.
 use mathlib.Core.List.{List}
 use Prim.Native.Nat.{ℕ}
 use Rattle.rules.specs.Work.{Work, halted, idle, stop, unlisted}

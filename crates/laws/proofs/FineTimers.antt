@@ -1,4 +1,4 @@
--- Every definition of Timers.antt (timer queues) keeps work fine. Assumes nothing.
+-- Every definition of Timers.antt (timer queues) keeps work fine.
 use mathlib.Core.List.{List}
 use Prim.Native.Nat.{ℕ, zero, suc}
 use Rattle.rules.specs.Work.{Work, priority, reg, stop, wordAt, access, kindLoad}

@@ -1,4 +1,4 @@
--- The pigeonhole: a list of numbers below n, no two of them equal, has at most n of them. Assumes nothing.
+-- The pigeonhole: a list of numbers below n, no two of them equal, has at most n of them.
 use mathlib.Core.Path.{_≡_, refl, sym}
 use mathlib.Core.Bool.{Bool, true, false}
 use mathlib.Core.List.{List, [], _∷_}

@@ -1,5 +1,5 @@
 -- A walk with a budget of turns above the number of words comes to what the walk with the list of the pointer values passed comes to: where the
--- budget runs out, a value comes again. For any step along words. Assumes nothing.
+-- budget runs out, a value comes again. For any step along words.
 use mathlib.Core.Path.{_≡_, refl, sym, _∙_}
 use mathlib.Core.Bool.{Bool, true, false}
 use mathlib.Core.Logic.{_↔_, _⊎_, inl, inr, ⊎-elim}

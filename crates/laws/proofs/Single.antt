@@ -1,4 +1,4 @@
--- The words that no store, or one, touches. Assumes nothing.
+-- The words that no store, or one, touches.
 use mathlib.Core.Path.{_≡_, refl, sym, ap}
 use mathlib.Core.List.{List, [], _∷_}
 use Prim.Native.Nat.{ℕ, zero, suc, _+_, _≤_, _<_}

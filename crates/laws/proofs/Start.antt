@@ -1,4 +1,4 @@
--- The places of an instruction read neither Iptr nor Oreg, so their tests are the same after the fetch as at the step's start. Assumes nothing.
+-- The places of an instruction read neither Iptr nor Oreg, so their tests are the same after the fetch as at the step's start.
 use mathlib.Core.Path.{_≡_, refl, sym, ap, _∙_}
 use mathlib.Core.Bool.{Bool, true, false}
 use mathlib.Core.List.{List, [], _∷_}

@@ -1,5 +1,5 @@
 -- 000's InsertFirstStep and DeleteFirstStep are refused with Stop exactly where the walk along the timer queue comes again to a pointer value
--- that it has passed (01, Answers by number, 11; DECISIONS 27). Assumes nothing.
+-- that it has passed (01, Answers by number, 11; DECISIONS 27).
 use mathlib.Core.Path.{_≡_, refl, _∙_}
 use mathlib.Core.List.{List}
 use Prim.Native.Nat.{ℕ, _≤_, _<_}

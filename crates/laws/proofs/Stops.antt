@@ -1,5 +1,5 @@
 -- The tests of the places where a step Stops tell where it does: each operation, and each request, is refused with 11 exactly where the test of
--- its place holds (01, Answers by number, 11; DECISIONS 26, 27). Assumes nothing.
+-- its place holds (01, Answers by number, 11; DECISIONS 26, 27).
 use mathlib.Core.Path.{_≡_, refl, sym, subst, _∙_}
 use mathlib.Core.Bool.{Bool, true, false, _&&_, _||_, not}
 use mathlib.Core.List.{List, [], _∷_}

@@ -1,4 +1,4 @@
--- Stores and moves keep the length of memory, and a word that none of them touches. Assumes nothing.
+-- Stores and moves keep the length of memory, and a word that none of them touches.
 use mathlib.Core.Path.{_≡_, refl, sym, _∙_}
 use mathlib.Core.Bool.{Bool, true, false, _&&_}
 use mathlib.Core.List.{List, [], _∷_, _++_}

@@ -1,5 +1,5 @@
 -- The words that a call's stores touch: below the size, rising, each once; memory outside them is as before; and so the length of a record.
--- For any stores, moves among them. Assumes nothing.
+-- For any stores, moves among them.
 use mathlib.Core.Path.{_≡_, refl, sym, _∙_}
 use mathlib.Core.Bool.{Bool, true, false}
 use mathlib.Core.List.{List, [], _∷_}

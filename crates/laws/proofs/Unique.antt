@@ -1,5 +1,5 @@
 -- 01's number determines the answer, and what a call comes to determines its reply, memory and journal: no second answer meets a contract that
--- is an equation of outcomes (01, What the contracts have to say). Assumes nothing.
+-- is an equation of outcomes (01, What the contracts have to say).
 use mathlib.Core.Path.{_≡_, refl, sym, ap, _∙_}
 use mathlib.Core.Bool.{Bool, true, false}
 use mathlib.Core.List.{List, [], _∷_}

@@ -1,4 +1,4 @@
--- Fresh: the memory that the loop fills, and when the code fits. Assumes nothing.
+-- Fresh: the memory that the loop fills, and when the code fits.
 use mathlib.Core.Path.{_≡_, refl, sym, ap, _∙_}
 use mathlib.Core.Bool.{Bool, true, false, _||_}
 use mathlib.Core.List.{List, append-nil}

@@ -1,22 +1,16 @@
 // A fresh machine: memory from the code, and the registers.
-use names::FPTR_REG_HIGH;
-use names::FPTR_REG_LOW;
-use names::IPTR_REG;
-use names::MEM_START;
-use names::MEM_START_WORD;
-use names::NOT_PROCESS;
-use names::WDESC_REG;
 use rules::Machine;
 use rules::REGISTERS;
+use rules::names::*;
 ghost use mathlib.Core.Path.{_≡_};
 ghost use Prim.Native.Nat.{_<_, _≤_};
 ghost use lib.ListN.{length, getD};
-ghost use Rattle.rules.specs.Calls as rules;
+ghost use Rattle.rules.specs.Calls as calls;
 
 // Whether n bytes of code do not fit a memory of size words: none, or no whole word left after them. Nothing wraps.
 pub fn code_bad(size: usize, n: usize) -> bool
     requires { ⌜ (64 ≤ size) × (size ≤ 16384) ⌝ }
-    ensures { λ r. ⌜ r ≡ rules.codeBad size n ⌝ }
+    ensures { λ r. ⌜ r ≡ calls.codeBad size n ⌝ }
 {
     if n == 0 {
         return true;
@@ -37,7 +31,7 @@ fn code_byte(code: &[u8], k: usize) -> u32
 // Word k of the code.
 fn code_word(code: &[u8], k: usize) -> u32
     requires { ⌜ k ≤ 16384 ⌝ }
-    ensures { λ r. ⌜ r ≡ rules.codeWord (now (code .entry)) k ⌝ }
+    ensures { λ r. ⌜ r ≡ calls.codeWord (now (code .entry)) k ⌝ }
 {
     let at = 4 * k;
     let b0 = code_byte(code, at);
@@ -50,7 +44,7 @@ fn code_word(code: &[u8], k: usize) -> u32
 // Word i of a fresh memory.
 fn fresh_word(code: &[u8], i: usize) -> u32
     requires { ⌜ i ≤ 16384 ⌝ }
-    ensures { λ r. ⌜ r ≡ rules.freshWord (now (code .entry)) i ⌝ }
+    ensures { λ r. ⌜ r ≡ calls.freshWord (now (code .entry)) i ⌝ }
 {
     if i < 12 {
         return NOT_PROCESS;
@@ -64,7 +58,7 @@ fn fresh_word(code: &[u8], i: usize) -> u32
 // Makes memory anew.
 pub fn fill(mem: &mut [u32], code: &[u8])
     requires { ⌜ length (now mem) ≤ 16384 ⌝ }
-    ensures { λ _. ⌜ now (mem .exit) ≡ rules.freshMemory (now (code .entry)) 0 (length (now (mem .entry))) ⌝ }
+    ensures { λ _. ⌜ now (mem .exit) ≡ calls.freshMemory (now (code .entry)) 0 (length (now (mem .entry))) ⌝ }
 {
     let mut i = 0;
     let mut left = mem.len();
@@ -78,7 +72,7 @@ pub fn fill(mem: &mut [u32], code: &[u8])
 // The registers with n bytes of code.
 fn fresh_regs(n: usize) -> [u32; REGISTERS]
     requires { ⌜ n ≤ 65536 ⌝ }
-    ensures { λ r. ⌜ r ≡ rules.freshRegs n ⌝ }
+    ensures { λ r. ⌜ r ≡ calls.freshRegs n ⌝ }
 {
     let words = ((n + 3) / 4) as u32;
     let top = MEM_START + 4 * words;
@@ -92,7 +86,7 @@ fn fresh_regs(n: usize) -> [u32; REGISTERS]
 
 pub fn fresh_machine(n: usize) -> Machine
     requires { ⌜ n ≤ 65536 ⌝ }
-    ensures { λ r. ⌜ r ≡ rules.machineOf (rules.freshRegs n) 0 0 ⌝ }
+    ensures { λ r. ⌜ r ≡ calls.machineOf (calls.freshRegs n) 0 0 ⌝ }
 {
     let regs = fresh_regs(n);
     Machine {
@@ -104,7 +98,7 @@ pub fn fresh_machine(n: usize) -> Machine
 
 // What a refused fresh hands back.
 pub fn no_machine() -> Machine
-    ensures { λ r. ⌜ r ≡ rules.noMachine ⌝ }
+    ensures { λ r. ⌜ r ≡ calls.noMachine ⌝ }
 {
     let regs = [0u32; REGISTERS];
     Machine {

@@ -1,30 +1,16 @@
 // A call being planned: the registers, the stores so far in program order (single words, and at most one move of bytes), and the first refusal.
 // Here is what changes no store. Nothing is written before a commit.
-use names::AREG;
-use names::BPTR_REG_HIGH;
-use names::BPTR_REG_LOW;
-use names::BREG;
-use names::CLOCK_REG_HIGH;
-use names::CLOCK_REG_LOW;
-use names::CREG;
-use names::FLAGS_REG;
-use names::FPTR_REG_HIGH;
-use names::FPTR_REG_LOW;
-use names::GOTO_SNP_BIT;
-use names::IPTR_REG;
-use names::OREG;
-use names::PRESCALER_REG;
-use names::STATUS_REG;
-use names::STOP;
-use names::WDESC_REG;
+pub mod operands; // What the operations that load and store do to the evaluation stack and to the two pointers of a plan, in registers alone. Each function is
+
 use rules::Attempt;
 use rules::Both;
 use rules::Core;
 use rules::REGISTERS;
 use rules::System;
+use rules::names::*;
 ghost use mathlib.Core.Path.{_≡_};
 ghost use Prim.Native.Nat.{_<_};
-ghost use Rattle.rules.specs.Work as rules;
+ghost use Rattle.rules.specs.Work as work;
 ghost use Rattle.rules.specs.Registers as registers;
 ghost use Rattle.plan.specs.View.{view, Grown};
 
@@ -46,7 +32,7 @@ pub struct Plan {
 
 // Nothing done yet.
 pub fn begin(regs: [u32; REGISTERS]) -> Plan
-    ensures { λ r. ⌜ (view r ≡ rules.begin regs) × (r .n ≡ 0) × (r .cut ≡ 0) × (r .count ≡ 0) ⌝ }
+    ensures { λ r. ⌜ (view r ≡ work.begin regs) × (r .n ≡ 0) × (r .cut ≡ 0) × (r .count ≡ 0) ⌝ }
 {
     Plan {
         regs,
@@ -66,7 +52,7 @@ pub fn begin(regs: [u32; REGISTERS]) -> Plan
 // A register is given a value.
 pub fn put(w: Plan, k: usize, v: u32) -> Plan
     requires { ⌜ k < registers.registers ⌝ }
-    ensures { λ r. ⌜ (view r ≡ rules.put k v (view w)) × Grown 0 w r ⌝ }
+    ensures { λ r. ⌜ (view r ≡ work.put k v (view w)) × Grown 0 w r ⌝ }
 {
     let mut t = w;
     t.regs[k] = v;
@@ -76,7 +62,7 @@ pub fn put(w: Plan, k: usize, v: u32) -> Plan
 // Bits of a register set.
 pub fn raise(w: Plan, k: usize, mask: u32) -> Plan
     requires { ⌜ k < registers.registers ⌝ }
-    ensures { λ r. ⌜ (view r ≡ rules.raise k mask (view w)) × Grown 0 w r ⌝ }
+    ensures { λ r. ⌜ (view r ≡ work.raise k mask (view w)) × Grown 0 w r ⌝ }
 {
     let x = w.regs[k];
     put(w, k, x | mask)
@@ -85,7 +71,7 @@ pub fn raise(w: Plan, k: usize, mask: u32) -> Plan
 // Bits of a register cleared.
 pub fn lower(w: Plan, k: usize, mask: u32) -> Plan
     requires { ⌜ k < registers.registers ⌝ }
-    ensures { λ r. ⌜ (view r ≡ rules.lower k mask (view w)) × Grown 0 w r ⌝ }
+    ensures { λ r. ⌜ (view r ≡ work.lower k mask (view w)) × Grown 0 w r ⌝ }
 {
     let x = w.regs[k];
     put(w, k, x & !mask)
@@ -93,7 +79,7 @@ pub fn lower(w: Plan, k: usize, mask: u32) -> Plan
 
 // The step will end with StartNextProcess.
 pub fn goto_snp(w: Plan) -> Plan
-    ensures { λ r. ⌜ (view r ≡ rules.gotoSNP (view w)) × Grown 0 w r ⌝ }
+    ensures { λ r. ⌜ (view r ≡ work.gotoSNP (view w)) × Grown 0 w r ⌝ }
 {
     raise(w, STATUS_REG, GOTO_SNP_BIT)
 }
@@ -114,7 +100,7 @@ pub fn core_of(w: Plan) -> Core
 }
 
 pub fn put_core(w: Plan, s: Core) -> Plan
-    ensures { λ r. ⌜ (view r ≡ rules.putCore s (view w)) × Grown 0 w r ⌝ }
+    ensures { λ r. ⌜ (view r ≡ work.putCore s (view w)) × Grown 0 w r ⌝ }
 {
     let mut t = w;
     t.regs[IPTR_REG] = s.iptr;
@@ -144,7 +130,7 @@ pub fn system_of(w: Plan) -> System
 }
 
 pub fn put_system(w: Plan, y: System) -> Plan
-    ensures { λ r. ⌜ (view r ≡ rules.putSystem y (view w)) × Grown 0 w r ⌝ }
+    ensures { λ r. ⌜ (view r ≡ work.putSystem y (view w)) × Grown 0 w r ⌝ }
 {
     let mut t = w;
     t.regs[FPTR_REG_HIGH] = y.front0;
@@ -159,7 +145,7 @@ pub fn put_system(w: Plan, y: System) -> Plan
 }
 
 pub fn put_both(w: Plan, t: Both) -> Plan
-    ensures { λ r. ⌜ (view r ≡ rules.putBoth t (view w)) × Grown 0 w r ⌝ }
+    ensures { λ r. ⌜ (view r ≡ work.putBoth t (view w)) × Grown 0 w r ⌝ }
 {
     let s = t.core;
     let y = t.system;
@@ -168,7 +154,7 @@ pub fn put_both(w: Plan, t: Both) -> Plan
 
 // The first refusal stays.
 pub fn refuse_at(w: Plan, number: u32, kind: u32, address: u32) -> Plan
-    ensures { λ r. ⌜ (view r ≡ rules.refuseAt number kind address (view w)) × Grown 0 w r ⌝ }
+    ensures { λ r. ⌜ (view r ≡ work.refuseAt number kind address (view w)) × Grown 0 w r ⌝ }
 {
     if w.answer == 0 {
         let mut t = w;
@@ -182,14 +168,14 @@ pub fn refuse_at(w: Plan, number: u32, kind: u32, address: u32) -> Plan
 
 // A refusal that is no access.
 pub fn refuse(w: Plan, number: u32) -> Plan
-    ensures { λ r. ⌜ (view r ≡ rules.refuse number (view w)) × Grown 0 w r ⌝ }
+    ensures { λ r. ⌜ (view r ≡ work.refuse number (view w)) × Grown 0 w r ⌝ }
 {
     refuse_at(w, number, 0, 0)
 }
 
 // An operation on registers alone that can Stop.
 pub fn attempted(w: Plan, t: Attempt) -> Plan
-    ensures { λ r. ⌜ (view r ≡ rules.attempted t (view w)) × Grown 0 w r ⌝ }
+    ensures { λ r. ⌜ (view r ≡ work.attempted t (view w)) × Grown 0 w r ⌝ }
 {
     if t.stops {
         return refuse(w, STOP);

@@ -1,21 +1,17 @@
 // Loop end (000 1.11): sums that leave the range wrap before the test, and the time slice stands after both branches (01, One step).
 use crate::slices::time_slice;
-use marks::add_to_c;
-use names::AREG;
-use names::BREG;
-use names::CREG;
-use names::IPTR_REG;
-use names::MINUS_ONE;
+use memory::store::r_index_word;
+use memory::store::w_index_word;
 use plan::Plan;
 use plan::put;
-use store::r_index_word;
-use store::w_index_word;
+use rules::names::*;
+use scheduling::flags::add_to_c;
 use words::positive;
 ghost use mathlib.Core.Path.{_≡_};
 ghost use Prim.Native.Nat.{_-_};
 ghost use Rattle.rules.specs.Words.{range, atByte};
 ghost use Rattle.plan.specs.View.{view, Room, Grown};
-ghost use Rattle.rules.specs.Scheduling as rules;
+ghost use Rattle.rules.specs.Scheduling as scheduling;
 
 // The address n bytes back; addresses wrap.
 fn back_by(base: u32, n: u32) -> u32
@@ -27,7 +23,7 @@ fn back_by(base: u32, n: u32) -> u32
 // The index is stored, and Iptr goes back.
 fn loop_back(w: Plan, mem: &[u32]) -> Plan
     requires { ⌜ Room 1 w ⌝ }
-    ensures { λ r. ⌜ (view r ≡ rules.loopBack (now (mem .entry)) (view w)) × Grown 1 w r ⌝ }
+    ensures { λ r. ⌜ (view r ≡ scheduling.loopBack (now (mem .entry)) (view w)) × Grown 1 w r ⌝ }
 {
     let iptr = back_by(w.regs[IPTR_REG], w.regs[AREG]);
     put(
@@ -39,14 +35,14 @@ fn loop_back(w: Plan, mem: &[u32]) -> Plan
 
 fn count_up(w: Plan, mem: &[u32]) -> Plan
     requires { ⌜ Room 0 w ⌝ }
-    ensures { λ r. ⌜ (view r ≡ rules.countUp (now (mem .entry)) (view w)) × Grown 0 w r ⌝ }
+    ensures { λ r. ⌜ (view r ≡ scheduling.countUp (now (mem .entry)) (view w)) × Grown 0 w r ⌝ }
 {
     add_to_c(r_index_word(w, mem, w.regs[BREG], 0, CREG), 1)
 }
 
 fn loop_on(w: Plan, mem: &[u32]) -> Plan
     requires { ⌜ Room 1 w ⌝ }
-    ensures { λ r. ⌜ (view r ≡ rules.loopOn (now (mem .entry)) (view w)) × Grown 1 w r ⌝ }
+    ensures { λ r. ⌜ (view r ≡ scheduling.loopOn (now (mem .entry)) (view w)) × Grown 1 w r ⌝ }
 {
     if positive(w.regs[CREG]) {
         return loop_back(count_up(w, mem), mem);
@@ -56,14 +52,14 @@ fn loop_on(w: Plan, mem: &[u32]) -> Plan
 
 fn count_down(w: Plan, mem: &[u32]) -> Plan
     requires { ⌜ Room 0 w ⌝ }
-    ensures { λ r. ⌜ (view r ≡ rules.countDown (now (mem .entry)) (view w)) × Grown 0 w r ⌝ }
+    ensures { λ r. ⌜ (view r ≡ scheduling.countDown (now (mem .entry)) (view w)) × Grown 0 w r ⌝ }
 {
     add_to_c(r_index_word(w, mem, w.regs[BREG], 1, CREG), MINUS_ONE)
 }
 
 fn store_count(w: Plan, mem: &[u32]) -> Plan
     requires { ⌜ Room 1 w ⌝ }
-    ensures { λ r. ⌜ (view r ≡ rules.storeCount (now (mem .entry)) (view w)) × Grown 1 w r ⌝ }
+    ensures { λ r. ⌜ (view r ≡ scheduling.storeCount (now (mem .entry)) (view w)) × Grown 1 w r ⌝ }
 {
     w_index_word(w, mem, w.regs[BREG], 1, w.regs[CREG])
 }
@@ -71,7 +67,7 @@ fn store_count(w: Plan, mem: &[u32]) -> Plan
 // Loop end.
 pub fn lend(w: Plan, mem: &[u32]) -> Plan
     requires { ⌜ Room 10 w ⌝ }
-    ensures { λ r. ⌜ (view r ≡ rules.lend (now (mem .entry)) (view w)) × Grown 10 w r ⌝ }
+    ensures { λ r. ⌜ (view r ≡ scheduling.lend (now (mem .entry)) (view w)) × Grown 10 w r ⌝ }
 {
     time_slice(loop_on(store_count(count_down(w, mem), mem), mem), mem)
 }

@@ -1,26 +1,19 @@
 // TimeSlice (000 1.9; 01, Links, clocks, slice), and the jump that ends with it.
-use names::CLOCKS_RUN;
-use names::FLAGS_REG;
-use names::IPTR_REG;
-use names::OREG;
-use names::PRIORITY_MASK;
-use names::SLICE_LENGTH;
-use names::SLICE_REG;
-use names::WDESC_REG;
 use plan::Plan;
 use plan::goto_snp;
 use plan::put;
-use schedule::running::run;
-use schedule::stopping::save_iptr;
+use rules::names::*;
+use scheduling::running::run;
+use scheduling::stopping::save_iptr;
 use words::at_byte;
 ghost use mathlib.Core.Path.{_≡_};
 ghost use Rattle.plan.specs.View.{view, Room, Grown};
-ghost use Rattle.rules.specs.Scheduling as rules;
+ghost use Rattle.rules.specs.Scheduling as scheduling;
 
 // The process has run for a slice: it goes to the back of its list.
 fn slice_out(w: Plan, mem: &[u32]) -> Plan
     requires { ⌜ Room 8 w ⌝ }
-    ensures { λ r. ⌜ (view r ≡ rules.sliceOut (now (mem .entry)) (view w)) × Grown 8 w r ⌝ }
+    ensures { λ r. ⌜ (view r ≡ scheduling.sliceOut (now (mem .entry)) (view w)) × Grown 8 w r ⌝ }
 {
     let wdesc = w.regs[WDESC_REG];
     goto_snp(run(save_iptr(w, mem), mem, wdesc))
@@ -28,7 +21,7 @@ fn slice_out(w: Plan, mem: &[u32]) -> Plan
 
 fn slice_if_long(w: Plan, mem: &[u32]) -> Plan
     requires { ⌜ Room 8 w ⌝ }
-    ensures { λ r. ⌜ (view r ≡ rules.sliceIfLong (now (mem .entry)) (view w)) × Grown 8 w r ⌝ }
+    ensures { λ r. ⌜ (view r ≡ scheduling.sliceIfLong (now (mem .entry)) (view w)) × Grown 8 w r ⌝ }
 {
     if SLICE_LENGTH <= w.regs[SLICE_REG] {
         return slice_out(w, mem);
@@ -38,7 +31,7 @@ fn slice_if_long(w: Plan, mem: &[u32]) -> Plan
 
 fn slice_if_running(w: Plan, mem: &[u32]) -> Plan
     requires { ⌜ Room 8 w ⌝ }
-    ensures { λ r. ⌜ (view r ≡ rules.sliceIfRunning (now (mem .entry)) (view w)) × Grown 8 w r ⌝ }
+    ensures { λ r. ⌜ (view r ≡ scheduling.sliceIfRunning (now (mem .entry)) (view w)) × Grown 8 w r ⌝ }
 {
     if w.regs[FLAGS_REG] & CLOCKS_RUN == 0 {
         return w;
@@ -48,7 +41,7 @@ fn slice_if_running(w: Plan, mem: &[u32]) -> Plan
 
 pub fn time_slice(w: Plan, mem: &[u32]) -> Plan
     requires { ⌜ Room 8 w ⌝ }
-    ensures { λ r. ⌜ (view r ≡ rules.timeSlice (now (mem .entry)) (view w)) × Grown 8 w r ⌝ }
+    ensures { λ r. ⌜ (view r ≡ scheduling.timeSlice (now (mem .entry)) (view w)) × Grown 8 w r ⌝ }
 {
     if w.regs[WDESC_REG] & PRIORITY_MASK == 0 {
         return w;
@@ -59,7 +52,7 @@ pub fn time_slice(w: Plan, mem: &[u32]) -> Plan
 // Jump.
 pub fn j(w: Plan, mem: &[u32]) -> Plan
     requires { ⌜ Room 8 w ⌝ }
-    ensures { λ r. ⌜ (view r ≡ rules.j (now (mem .entry)) (view w)) × Grown 8 w r ⌝ }
+    ensures { λ r. ⌜ (view r ≡ scheduling.j (now (mem .entry)) (view w)) × Grown 8 w r ⌝ }
 {
     let iptr = at_byte(w.regs[IPTR_REG], w.regs[OREG]);
     time_slice(put(w, IPTR_REG, iptr), mem)

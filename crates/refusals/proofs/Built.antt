@@ -1,4 +1,4 @@
--- The codes that have a row in the table of operations are those of 01's list. Assumes nothing.
+-- The codes that have a row in the table of operations are those of 01's list.
 use mathlib.Core.Path.{_≡_, refl, sym, _∙_}
 use mathlib.Core.Bool.{Bool, true, false, _&&_, _||_}
 use mathlib.Core.List.{List, [], _∷_}

@@ -1,4 +1,4 @@
--- Each call answers with the first number of 01's table whose condition holds, and 0 where none does. Assumes nothing.
+-- Each call answers with the first number of 01's table whose condition holds, and 0 where none does.
 use mathlib.Core.Path.{_≡_, refl, sym, ap, _∙_}
 use mathlib.Core.Bool.{Bool, true, false, _&&_, _||_, not}
 use mathlib.Core.List.{List, [], _∷_, _++_}

@@ -1,5 +1,5 @@
 -- The answer of a step that is neither halted nor idle is 0, 9, 10 or 11; it is 9 exactly where the byte was fetched and makes an operation outside
--- the built list, and 11 exactly where the step Stops at one of the places of DECISIONS 26. Assumes nothing.
+-- the built list, and 11 exactly where the step Stops at one of the places of DECISIONS 26.
 use mathlib.Core.Path.{_≡_, refl, sym, subst, _∙_}
 use mathlib.Core.Logic.{_⊎_, inl, inr, ⊎-elim}
 use mathlib.Core.Bool.{Bool, true, false, _&&_, not}

@@ -1,5 +1,5 @@
 -- 11 of a call, place by place: a step that nothing refuses before is refused with 11 exactly where `stops` holds; and of tin, taltwt and dist, exactly
--- where the walk along the timer queue comes again to a pointer value that it has passed (01, Answers by number, 11; DECISIONS 27). Assumes nothing.
+-- where the walk along the timer queue comes again to a pointer value that it has passed (01, Answers by number, 11; DECISIONS 27).
 use mathlib.Core.Path.{_≡_, refl, sym, ap, _∙_}
 use mathlib.Core.Logic.{_↔_, _⊎_, ⊎-elim}
 use mathlib.Core.Bool.{Bool, true, false, _&&_, _||_, not}

@@ -1,4 +1,4 @@
--- How many words tick, take, give and event store to: none; give one, where its byte is stored. So how many pairs their records have. Assumes nothing.
+-- How many words tick, take, give and event store to: none; give one, where its byte is stored. So how many pairs their records have.
 use mathlib.Core.Path.{_≡_, refl, _∙_}
 use mathlib.Core.Bool.{true}
 use mathlib.Core.List.{List, [], _∷_}

@@ -1,4 +1,4 @@
--- The starred lines of 01, proved of the definitions. Assumes nothing.
+-- The starred lines of 01, proved of the definitions.
 use mathlib.Core.Path.{_≡_, refl, ap}
 use mathlib.Core.Bool.{true, false}
 use Prim.Native.Nat.{ℕ, zero, suc, _+_, _-_, _%_, _^_, _<_}

@@ -1,19 +1,19 @@
--- A common step comes to what the step of rules comes to. Assumes nothing.
-use mathlib.Core.Path.{_≡_, refl, sym, ap, _∙_}
+-- A common step comes to what the step of rules comes to.
+use mathlib.Core.Path.{_≡_}
 use mathlib.Core.Bool.{true}
 use mathlib.Core.List.{List}
-use Prim.Native.Nat.{ℕ, _≤_}
+use Prim.Native.Nat.{ℕ}
 use native.Mathlib.Omega.{arith}
 use lib.ListN.{length}
 use Rattle.rules.specs.Registers.{registers, coreOf}
-use Rattle.rules.specs.Work.{Work, begin}
+use Rattle.rules.specs.Work.{begin}
 use Rattle.rules.specs.Step as steps
 use Rattle.rules.specs.Calls.{settled}
 use Rattle.rules.specs.declared.Machine.{Machine}
-use Rattle.quiet.specs.Quiet.{quiet}
-use Rattle.swift.specs.declared.Swift.{Swift}
-use Rattle.swift.specs.Swift as swift
-use Rattle.swift.proofs.Step.{swift-step}
+use Rattle.step_pending.specs.Quiet.{quiet}
+use Rattle.step_fast.specs.declared.Swift.{Swift}
+use Rattle.step_fast.specs.Swift as swift
+use Rattle.step_fast.proofs.Step.{swift-step}
 
 pub common-step-is :
     (m : Machine) (mem j : List ℕ) (t : Swift)

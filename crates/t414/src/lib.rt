@@ -10,11 +10,11 @@ ghost use Rattle.history.specs.Contracts.{FreshContract, StepContract, TickCont
 pub fn fresh(mem: &mut [u32], journal: &mut [u32], code: &[u8]) -> Reply
     ensures { λ r. ⌜ FreshContract (now (code .entry)) (now (mem .entry)) (now (journal .entry)) r (now (mem .exit)) (now (journal .exit)) ⌝ }
 {
-    if checks::size_bad(mem.len(), journal.len()) {
-        return checks::refuse(loading::no_machine(), 1);
+    if journal::checks::size_bad(mem.len(), journal.len()) {
+        return journal::checks::refuse(loading::no_machine(), 1);
     }
     if loading::code_bad(mem.len(), code.len()) {
-        return checks::refuse(loading::no_machine(), 2);
+        return journal::checks::refuse(loading::no_machine(), 2);
     }
     loading::fill(mem, code);
     let machine = loading::fresh_machine(code.len());
@@ -30,109 +30,109 @@ pub fn fresh(mem: &mut [u32], journal: &mut [u32], code: &[u8]) -> Reply
 pub fn step(m: Machine, mem: &mut [u32], journal: &mut [u32]) -> Reply
     ensures { λ r. ⌜ StepContract m (now (mem .entry)) (now (journal .entry)) r (now (mem .exit)) (now (journal .exit)) ⌝ }
 {
-    let number = checks::first_bad(false, mem.len(), journal.len(), m.depth, m.used);
+    let number = journal::checks::first_bad(false, mem.len(), journal.len(), m.depth, m.used);
     if number != 0 {
-        return checks::refuse(m, number);
+        return journal::checks::refuse(m, number);
     }
     let regs = m.regs;
-    if quiet::quiet(regs) {
-        let t = swift::common_step(mem, regs);
+    if step_pending::pending::quiet(regs) {
+        let t = step_fast::common_step(mem, regs);
         let common = t.done;
         if common {
-            return brief::commit_common(m, t, mem, journal);
+            return journal_small::commit_common(m, t, mem, journal);
         }
-        return engine::planned(m, mem, journal);
+        return step_engine::planned(m, mem, journal);
     }
-    engine::planned(m, mem, journal)
+    step_engine::planned(m, mem, journal)
 }
 
 // The clocks go on by one.
 pub fn tick(m: Machine, mem: &mut [u32], journal: &mut [u32]) -> Reply
     ensures { λ r. ⌜ TickContract m (now (mem .entry)) (now (journal .entry)) r (now (mem .exit)) (now (journal .exit)) ⌝ }
 {
-    let number = checks::first_bad(false, mem.len(), journal.len(), m.depth, m.used);
+    let number = journal::checks::first_bad(false, mem.len(), journal.len(), m.depth, m.used);
     if number != 0 {
-        return checks::refuse(m, number);
+        return journal::checks::refuse(m, number);
     }
     let regs = m.regs;
-    let ticked = ticks::tick(regs);
-    brief::commit_regs(m, ticked, mem, journal)
+    let ticked = links::clock::tick(regs);
+    journal_small::commit_regs(m, ticked, mem, journal)
 }
 
 // A byte is taken from an output link.
 pub fn take(m: Machine, mem: &mut [u32], journal: &mut [u32], channel: u32) -> Reply
     ensures { λ r. ⌜ TakeContract channel m (now (mem .entry)) (now (journal .entry)) r (now (mem .exit)) (now (journal .exit)) ⌝ }
 {
-    let number = checks::first_bad(
-        checks::not_output(channel),
+    let number = journal::checks::first_bad(
+        journal::checks::not_output(channel),
         mem.len(),
         journal.len(),
         m.depth,
         m.used,
     );
     if number != 0 {
-        return checks::refuse(m, number);
+        return journal::checks::refuse(m, number);
     }
     let c = channel as usize;
     let regs = m.regs;
     let w = plan::begin(regs);
-    let byte = links::taken(w, mem, c);
-    let p = links::take(w, mem, c);
-    settling::settle(m, p, byte as u8, mem, journal)
+    let byte = links::link_calls::taken(w, mem, c);
+    let p = links::link_calls::take(w, mem, c);
+    journal::outcome::settle(m, p, byte as u8, mem, journal)
 }
 
 // A byte is given to an input link.
 pub fn give(m: Machine, mem: &mut [u32], journal: &mut [u32], channel: u32, byte: u8) -> Reply
     ensures { λ r. ⌜ GiveContract channel byte m (now (mem .entry)) (now (journal .entry)) r (now (mem .exit)) (now (journal .exit)) ⌝ }
 {
-    let number = checks::first_bad(
-        checks::not_input(channel),
+    let number = journal::checks::first_bad(
+        journal::checks::not_input(channel),
         mem.len(),
         journal.len(),
         m.depth,
         m.used,
     );
     if number != 0 {
-        return checks::refuse(m, number);
+        return journal::checks::refuse(m, number);
     }
     let regs = m.regs;
-    let p = links::give(plan::begin(regs), mem, channel as usize, byte as u32);
-    settling::settle(m, p, 0, mem, journal)
+    let p = links::link_calls::give(plan::begin(regs), mem, channel as usize, byte as u32);
+    journal::outcome::settle(m, p, 0, mem, journal)
 }
 
 // The event pin is raised.
 pub fn event(m: Machine, mem: &mut [u32], journal: &mut [u32]) -> Reply
     ensures { λ r. ⌜ EventContract m (now (mem .entry)) (now (journal .entry)) r (now (mem .exit)) (now (journal .exit)) ⌝ }
 {
-    let number = checks::first_bad(false, mem.len(), journal.len(), m.depth, m.used);
+    let number = journal::checks::first_bad(false, mem.len(), journal.len(), m.depth, m.used);
     if number != 0 {
-        return checks::refuse(m, number);
+        return journal::checks::refuse(m, number);
     }
     let regs = m.regs;
-    let p = links::event(plan::begin(regs));
-    settling::settle(m, p, 0, mem, journal)
+    let p = links::link_calls::event(plan::begin(regs));
+    journal::outcome::settle(m, p, 0, mem, journal)
 }
 
 // The last accepted call is taken back.
 pub fn undo(m: Machine, mem: &mut [u32], journal: &mut [u32]) -> Reply
     ensures { λ r. ⌜ UndoContract m (now (mem .entry)) (now (journal .entry)) r (now (mem .exit)) (now (journal .exit)) ⌝ }
 {
-    let number = checks::first_bad(false, mem.len(), journal.len(), m.depth, m.used);
+    let number = journal::checks::first_bad(false, mem.len(), journal.len(), m.depth, m.used);
     if number != 0 {
-        return checks::refuse(m, number);
+        return journal::checks::refuse(m, number);
     }
     if m.depth == 0 {
-        return checks::refuse(m, 5);
+        return journal::checks::refuse(m, 5);
     }
-    journal::undo_last(m, mem, journal)
+    journal::commit::undo_last(m, mem, journal)
 }
 
 // The journal is emptied; nothing else changes.
 pub fn clear(m: Machine, mem: &mut [u32], journal: &mut [u32]) -> Reply
     ensures { λ r. ⌜ ClearContract m (now (mem .entry)) (now (journal .entry)) r (now (mem .exit)) (now (journal .exit)) ⌝ }
 {
-    if checks::size_bad(mem.len(), journal.len()) {
-        return checks::refuse(m, 1);
+    if journal::checks::size_bad(mem.len(), journal.len()) {
+        return journal::checks::refuse(m, 1);
     }
     let regs = m.regs;
     let machine = Machine {

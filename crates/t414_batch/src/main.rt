@@ -25,14 +25,18 @@
 // ends the program: one line on standard error, and no response for that case.
 //
 // Here are the calls and the loops; reading and writing are in the crate cases, which knows no call.
-use cases::case::Counts;
-use cases::case::Head;
-use cases::place::Place;
+use program_io::answers;
+use program_io::case;
+use program_io::case::Counts;
+use program_io::case::Head;
+use program_io::place;
+use program_io::place::Place;
+use program_io::room;
 use rules::Reply;
 ghost use Prim.Native.Nat.{_+_, _*_, _≤_};
 ghost use mathlib.Core.Path.{_≡_};
 ghost use lib.ListN.{length};
-ghost use Rattle.cases.specs.Sizes.{caseHead, mostWords, mostJournal, mostResponse};
+ghost use Rattle.program_io.specs.Sizes.{caseHead, mostWords, mostJournal, mostResponse};
 
 // Steps n times after the reply r, or until a step is refused. This is the only place that calls step, so that the compiler can
 // build the whole step into the loop. The loop keeps the reply, not the machine, since that is one copy less for each call.
@@ -138,8 +142,8 @@ fn ask(h: Head, input: &[u8], at: usize, mem: &mut [u32], journal: &mut [u32]) -
     let start = at + h.code;
     let end = at + h.end;
     let code = &input[start..end];
-    let c = cases::case::counted(input, at + h.from, start);
-    let r = cases::case::load(input, at, mem, journal);
+    let c = case::counted(input, at + h.from, start);
+    let r = case::load(input, at, mem, journal);
     let first = reply_to(h.call, h.channel, h.byte, r, mem, journal, code);
     rounds(c, first, mem, journal)
 }
@@ -159,7 +163,7 @@ fn answered(
     ensures { λ r. ⌜ (r .at ≤ r .end) × (r .end ≡ p .end) × (r .out ≤ length (now (output .exit))) ⌝ }
 {
     let r = ask(h, input, p.at, mem, journal);
-    cases::place::answered(p, h.size, r, mem, journal, output)
+    place::answered(p, h.size, r, mem, journal, output)
 }
 
 // Answers the case at the place p, if it can be answered, and says what to do next.
@@ -168,9 +172,9 @@ fn one(p: Place, input: &[u8], output: &mut [u8], mem: &mut [u32], journal: &mut
     requires { ⌜ (mostWords ≤ length (now mem)) × (mostJournal ≤ length (now journal)) ⌝ }
     ensures { λ r. ⌜ (r .at ≤ r .end) × (r .end ≡ p .end) × (r .out ≤ length (now (output .exit))) ⌝ }
 {
-    let h = cases::case::look(input, p.at, p.end);
-    if h.state != cases::case::LOOK {
-        return cases::place::held(p, h.state);
+    let h = case::look(input, p.at, p.end);
+    if h.state != case::LOOK {
+        return place::held(p, h.state);
     }
     let words = h.words;
     let records = h.journal;
@@ -189,21 +193,21 @@ fn all(input: &mut [u8], output: &mut [u8], mem: &mut [u32], journal: &mut [u32]
     requires { ⌜ (mostResponse ≤ length (now output)) × (mostWords ≤ length (now mem)) × (mostJournal ≤ length (now journal)) ⌝ }
     ensures { λ r. ⌜ r .out ≤ length (now (output .exit)) ⌝ }
 {
-    let mut p = cases::place::start();
+    let mut p = place::start();
     let mut turns = u64::MAX;
     while turns > 0 {
         p = one(p, input, output, mem, journal);
-        p = cases::place::ready(p, input, output);
-        turns = cases::place::next(p, turns);
+        p = place::ready(p, input, output);
+        turns = place::next(p, turns);
     }
     p
 }
 
 fn main() {
-    let mut input = cases::room::bytes();
-    let mut output = cases::room::bytes();
-    let mut mem = cases::room::memory();
-    let mut journal = cases::room::journal();
+    let mut input = room::bytes();
+    let mut output = room::bytes();
+    let mut mem = room::memory();
+    let mut journal = room::journal();
     let p = all(&mut input, &mut output, &mut mem, &mut journal);
-    cases::place::finish(p, &output);
+    place::finish(p, &output);
 }

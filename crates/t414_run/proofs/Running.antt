@@ -1,13 +1,13 @@
--- A turn of the program's loop, and its ends, in terms of the definitions. Assumes nothing.
-use Prim.Native.Nat.{ℕ, zero, suc, _+_, _-_, _≤_, _<_}
-use mathlib.Core.Path.{_≡_, refl, sym, _∙_}
+-- A turn of the program's loop, and its ends, in terms of the definitions.
+use Prim.Native.Nat.{ℕ, suc, _+_, _-_, _≤_, _<_}
+use mathlib.Core.Path.{_≡_, sym, _∙_}
 use mathlib.Core.List.{List}
 use native.Mathlib.Omega.{arith}
 use Rattle.rules.specs.Calls.{numberOf, outcomeOf, fresh, step}
 use Rattle.rules.specs.declared.Machine.{Machine}
 use Rattle.rules.specs.declared.Reply.{Reply}
 use Rattle.rules.proofs.Tests.{yes-eq, no-eq}
-use Rattle.t414_run.specs.Program.{Result, endAt, run, program}
+use Rattle.t414_run.specs.Program.{run, program}
 
 -- a step that was made: its machine, memory and journal, its reply, the words that it leaves, and the reply's number
 module _ (m : Machine) (mem j : List ℕ) (r : Reply) (mem' j' : List ℕ) (k : ℕ) (e : outcomeOf r mem' j' ≡ step m mem j) (n : k ≡ numberOf (r .answer)) where

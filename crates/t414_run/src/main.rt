@@ -1,5 +1,7 @@
 // Runs T414 code from standard input for up to 100 steps and prints one line (01, Numbers at the edges): A, B, C, the accepted
 // steps, the journal words used, and the number of the refusal that ended the run, or 0.
+use program_io::answers;
+use program_io::lines;
 use rules::Machine;
 ghost use mathlib.Core.Path.{_≡_};
 ghost use Rattle.t414_run.specs.Program as program;

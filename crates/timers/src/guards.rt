@@ -1,34 +1,24 @@
 // Timer guards (000 1.11): enable timer and disable timer.
-use deletion::delete_first_step;
-use loads::word_at;
-use names::AREG;
-use names::BREG;
-use names::CREG;
-use names::MACHINE_FALSE;
-use names::STOP;
-use names::TIME_NOT_SET;
-use names::TIME_S;
-use names::TIME_SET;
-use names::TLINK_S;
-use names::WDESC_REG;
-use names::WPTR_MASK;
+use crate::deletion::delete_first_step;
+use memory::loads::word_at;
+use memory::store::load_word;
+use memory::store::w_index_word;
 use plan::Plan;
 use plan::put;
 use plan::refuse;
-use schedule::drop_b;
-use schedule::is_this_selected_process;
-use store::load_word;
-use store::w_index_word;
+use rules::names::*;
+use scheduling::selected::drop_b;
+use scheduling::selected::is_this_selected_process;
 use words::at_word;
 use words::later;
 ghost use mathlib.Core.Path.{_≡_};
-ghost use Rattle.rules.specs.Timers as rules;
+ghost use Rattle.rules.specs.Timers as timers;
 ghost use Rattle.plan.specs.View.{view, Room, Grown};
 
 // The first timer guard of the alternative.
 fn enbt_first(w: Plan, mem: &[u32]) -> Plan
     requires { ⌜ Room 2 w ⌝ }
-    ensures { λ r. ⌜ (view r ≡ rules.enbtFirst (now (mem .entry)) (view w)) × Grown 2 w r ⌝ }
+    ensures { λ r. ⌜ (view r ≡ timers.enbtFirst (now (mem .entry)) (view w)) × Grown 2 w r ⌝ }
 {
     let wptr = w.regs[WDESC_REG] & WPTR_MASK;
     let set = w_index_word(w, mem, wptr, TLINK_S, TIME_SET);
@@ -38,7 +28,7 @@ fn enbt_first(w: Plan, mem: &[u32]) -> Plan
 // The earliest time is kept.
 fn enbt_earlier(w: Plan, mem: &[u32], time: u32) -> Plan
     requires { ⌜ Room 1 w ⌝ }
-    ensures { λ r. ⌜ (view r ≡ rules.enbtEarlier (now (mem .entry)) time (view w)) × Grown 1 w r ⌝ }
+    ensures { λ r. ⌜ (view r ≡ timers.enbtEarlier (now (mem .entry)) time (view w)) × Grown 1 w r ⌝ }
 {
     if later(time, w.regs[BREG]) {
         let wptr = w.regs[WDESC_REG] & WPTR_MASK;
@@ -49,7 +39,7 @@ fn enbt_earlier(w: Plan, mem: &[u32], time: u32) -> Plan
 
 fn enbt_link(w: Plan, mem: &[u32], link: u32) -> Plan
     requires { ⌜ Room 2 w ⌝ }
-    ensures { λ r. ⌜ (view r ≡ rules.enbtLink (now (mem .entry)) link (view w)) × Grown 2 w r ⌝ }
+    ensures { λ r. ⌜ (view r ≡ timers.enbtLink (now (mem .entry)) link (view w)) × Grown 2 w r ⌝ }
 {
     if link == TIME_NOT_SET {
         return enbt_first(w, mem);
@@ -64,7 +54,7 @@ fn enbt_link(w: Plan, mem: &[u32], link: u32) -> Plan
 
 fn enbt_guard(w: Plan, mem: &[u32]) -> Plan
     requires { ⌜ Room 2 w ⌝ }
-    ensures { λ r. ⌜ (view r ≡ rules.enbtGuard (now (mem .entry)) (view w)) × Grown 2 w r ⌝ }
+    ensures { λ r. ⌜ (view r ≡ timers.enbtGuard (now (mem .entry)) (view w)) × Grown 2 w r ⌝ }
 {
     if w.regs[AREG] == MACHINE_FALSE {
         return w;
@@ -76,7 +66,7 @@ fn enbt_guard(w: Plan, mem: &[u32]) -> Plan
 
 pub fn enbt(w: Plan, mem: &[u32]) -> Plan
     requires { ⌜ Room 2 w ⌝ }
-    ensures { λ r. ⌜ (view r ≡ rules.enbt (now (mem .entry)) (view w)) × Grown 2 w r ⌝ }
+    ensures { λ r. ⌜ (view r ≡ timers.enbt (now (mem .entry)) (view w)) × Grown 2 w r ⌝ }
 {
     drop_b(enbt_guard(w, mem))
 }
@@ -84,7 +74,7 @@ pub fn enbt(w: Plan, mem: &[u32]) -> Plan
 // Ready where the time of the wait's end is after that of this guard.
 fn dist_ready(w: Plan, mem: &[u32], time: u32) -> Plan
     requires { ⌜ Room 1 w ⌝ }
-    ensures { λ r. ⌜ (view r ≡ rules.distReady (now (mem .entry)) time (view w)) × Grown 1 w r ⌝ }
+    ensures { λ r. ⌜ (view r ≡ timers.distReady (now (mem .entry)) time (view w)) × Grown 1 w r ⌝ }
 {
     if later(time, w.regs[CREG]) {
         return is_this_selected_process(w, mem);
@@ -94,7 +84,7 @@ fn dist_ready(w: Plan, mem: &[u32], time: u32) -> Plan
 
 fn dist_set(w: Plan, mem: &[u32], link: u32) -> Plan
     requires { ⌜ Room 2 w ⌝ }
-    ensures { λ r. ⌜ (view r ≡ rules.distSet (now (mem .entry)) link (view w)) × Grown 2 w r ⌝ }
+    ensures { λ r. ⌜ (view r ≡ timers.distSet (now (mem .entry)) link (view w)) × Grown 2 w r ⌝ }
 {
     if link == TIME_SET {
         let a = at_word(w.regs[WDESC_REG] & WPTR_MASK, TIME_S);
@@ -107,7 +97,7 @@ fn dist_set(w: Plan, mem: &[u32], link: u32) -> Plan
 // The process is still in the queue where its link is neither mark: it is taken out.
 fn dist_link(w: Plan, mem: &[u32], link: u32) -> Plan
     requires { ⌜ Room 2 w ⌝ }
-    ensures { λ r. ⌜ (view r ≡ rules.distLink (now (mem .entry)) link (view w)) × Grown 2 w r ⌝ }
+    ensures { λ r. ⌜ (view r ≡ timers.distLink (now (mem .entry)) link (view w)) × Grown 2 w r ⌝ }
 {
     if link == TIME_NOT_SET {
         return put(w, AREG, MACHINE_FALSE);
@@ -117,7 +107,7 @@ fn dist_link(w: Plan, mem: &[u32], link: u32) -> Plan
 
 pub fn dist(w: Plan, mem: &[u32]) -> Plan
     requires { ⌜ Room 2 w ⌝ }
-    ensures { λ r. ⌜ (view r ≡ rules.dist (now (mem .entry)) (view w)) × Grown 2 w r ⌝ }
+    ensures { λ r. ⌜ (view r ≡ timers.dist (now (mem .entry)) (view w)) × Grown 2 w r ⌝ }
 {
     if w.regs[BREG] == MACHINE_FALSE {
         return put(w, AREG, MACHINE_FALSE);

@@ -1,32 +1,24 @@
 // PROC HandleTimerRequest (000 1.8): the front process of a queue is taken off, and runs if it was waiting.
-use loads::word_at;
-use names::FLAGS_REG;
-use names::NOT_PROCESS;
-use names::POINTER_S;
-use names::READY;
-use names::STOP;
-use names::TIME_SET;
-use names::TIMER_BASE;
-use names::TLINK_S;
-use names::WAITING;
+use crate::timer_queue::set_next;
+use crate::timer_queue::t_enabled;
+use crate::timer_queue::tptr_loc;
+use memory::loads::word_at;
+use memory::store::load_word;
+use memory::store::w_index_word;
 use plan::Plan;
 use plan::lower;
 use plan::refuse;
-use schedule::run;
-use store::load_word;
-use store::w_index_word;
-use timer_queues::queues::set_next;
-use timer_queues::queues::t_enabled;
-use timer_queues::queues::tptr_loc;
+use rules::names::*;
+use scheduling::running::run;
 use words::at_word;
 ghost use mathlib.Core.Path.{_≡_};
 ghost use Prim.Native.Nat.{_<_};
-ghost use Rattle.rules.specs.Timers as rules;
+ghost use Rattle.rules.specs.Timers as timers;
 ghost use Rattle.plan.specs.View.{view, Room, Grown};
 
 fn timed_out(w: Plan, mem: &[u32], queue: usize, front: u32) -> Plan
     requires { ⌜ (queue < 2) × Room 8 w ⌝ }
-    ensures { λ r. ⌜ (view r ≡ rules.timedOut (now (mem .entry)) queue front (view w)) × Grown 8 w r ⌝ }
+    ensures { λ r. ⌜ (view r ≡ timers.timedOut (now (mem .entry)) queue front (view w)) × Grown 8 w r ⌝ }
 {
     let descriptor = front | (queue as u32);
     run(
@@ -39,7 +31,7 @@ fn timed_out(w: Plan, mem: &[u32], queue: usize, front: u32) -> Plan
 // An IF of 000 with two branches: any other status is a Stop.
 fn timer_status(w: Plan, mem: &[u32], queue: usize, front: u32, status: u32) -> Plan
     requires { ⌜ (queue < 2) × Room 8 w ⌝ }
-    ensures { λ r. ⌜ (view r ≡ rules.timerStatus (now (mem .entry)) queue front status (view w)) × Grown 8 w r ⌝ }
+    ensures { λ r. ⌜ (view r ≡ timers.timerStatus (now (mem .entry)) queue front status (view w)) × Grown 8 w r ⌝ }
 {
     if status == READY {
         return w;
@@ -52,7 +44,7 @@ fn timer_status(w: Plan, mem: &[u32], queue: usize, front: u32, status: u32) -> 
 
 fn timer_wake(w: Plan, mem: &[u32], queue: usize, front: u32) -> Plan
     requires { ⌜ (queue < 2) × Room 8 w ⌝ }
-    ensures { λ r. ⌜ (view r ≡ rules.timerWake (now (mem .entry)) queue front (view w)) × Grown 8 w r ⌝ }
+    ensures { λ r. ⌜ (view r ≡ timers.timerWake (now (mem .entry)) queue front (view w)) × Grown 8 w r ⌝ }
 {
     let a = at_word(front, POINTER_S);
     let status = word_at(w, mem, a);
@@ -61,7 +53,7 @@ fn timer_wake(w: Plan, mem: &[u32], queue: usize, front: u32) -> Plan
 
 fn timer_next(w: Plan, mem: &[u32], queue: usize, second: u32) -> Plan
     requires { ⌜ (queue < 2) × Room 0 w ⌝ }
-    ensures { λ r. ⌜ (view r ≡ rules.timerNext (now (mem .entry)) queue second (view w)) × Grown 0 w r ⌝ }
+    ensures { λ r. ⌜ (view r ≡ timers.timerNext (now (mem .entry)) queue second (view w)) × Grown 0 w r ⌝ }
 {
     if second == NOT_PROCESS {
         return w;
@@ -71,7 +63,7 @@ fn timer_next(w: Plan, mem: &[u32], queue: usize, second: u32) -> Plan
 
 fn timer_unlink(w: Plan, mem: &[u32], queue: usize, front: u32, second: u32) -> Plan
     requires { ⌜ (queue < 2) × Room 2 w ⌝ }
-    ensures { λ r. ⌜ (view r ≡ rules.timerUnlink (now (mem .entry)) queue front second (view w)) × Grown 2 w r ⌝ }
+    ensures { λ r. ⌜ (view r ≡ timers.timerUnlink (now (mem .entry)) queue front second (view w)) × Grown 2 w r ⌝ }
 {
     let marked = w_index_word(w, mem, front, TLINK_S, TIME_SET);
     timer_next(
@@ -84,7 +76,7 @@ fn timer_unlink(w: Plan, mem: &[u32], queue: usize, front: u32, second: u32) -> 
 
 fn timer_front(w: Plan, mem: &[u32], queue: usize, front: u32) -> Plan
     requires { ⌜ (queue < 2) × Room 10 w ⌝ }
-    ensures { λ r. ⌜ (view r ≡ rules.timerFront (now (mem .entry)) queue front (view w)) × Grown 10 w r ⌝ }
+    ensures { λ r. ⌜ (view r ≡ timers.timerFront (now (mem .entry)) queue front (view w)) × Grown 10 w r ⌝ }
 {
     let a = at_word(front, TLINK_S);
     let second = word_at(w, mem, a);
@@ -98,7 +90,7 @@ fn timer_front(w: Plan, mem: &[u32], queue: usize, front: u32) -> Plan
 
 fn timer_serve(w: Plan, mem: &[u32], queue: usize) -> Plan
     requires { ⌜ (queue < 2) × Room 10 w ⌝ }
-    ensures { λ r. ⌜ (view r ≡ rules.timerServe (now (mem .entry)) queue (view w)) × Grown 10 w r ⌝ }
+    ensures { λ r. ⌜ (view r ≡ timers.timerServe (now (mem .entry)) queue (view w)) × Grown 10 w r ⌝ }
 {
     let a = tptr_loc(queue);
     let front = word_at(w, mem, a);
@@ -107,7 +99,7 @@ fn timer_serve(w: Plan, mem: &[u32], queue: usize) -> Plan
 
 pub fn handle_timer_request(w: Plan, mem: &[u32], queue: usize) -> Plan
     requires { ⌜ (queue < 2) × Room 10 w ⌝ }
-    ensures { λ r. ⌜ (view r ≡ rules.handleTimerRequest (now (mem .entry)) queue (view w)) × Grown 10 w r ⌝ }
+    ensures { λ r. ⌜ (view r ≡ timers.handleTimerRequest (now (mem .entry)) queue (view w)) × Grown 10 w r ⌝ }
 {
     timer_serve(lower(w, FLAGS_REG, t_enabled(queue)), mem, queue)
 }

@@ -1,35 +1,21 @@
 // Timer input and the wait of a timer alternative (000 1.11).
-use insertion::insert_first_step;
-use names::AREG;
-use names::BREG;
-use names::CLOCK_REG;
-use names::CREG;
-use names::ENABLING;
-use names::NONE_SELECTED;
-use names::READY;
-use names::STATE_S;
-use names::STOP;
-use names::TIME_NOT_SET;
-use names::TIME_S;
-use names::TIME_SET;
-use names::TLINK_S;
-use names::WDESC_REG;
-use names::WPTR_MASK;
+use crate::insertion::insert_first_step;
+use crate::timer_queue::next_time;
+use memory::store::r_index_word;
+use memory::store::w_index_word;
 use plan::Plan;
 use plan::refuse;
-use schedule::wait;
-use store::r_index_word;
-use store::w_index_word;
-use timer_queues::queues::next_time;
+use rules::names::*;
+use scheduling::stopping::wait;
 use words::later;
 use words::level;
 ghost use mathlib.Core.Path.{_≡_};
-ghost use Rattle.rules.specs.Timers as rules;
+ghost use Rattle.rules.specs.Timers as timers;
 ghost use Rattle.plan.specs.View.{view, Room, Grown};
 
 pub fn tin(w: Plan, mem: &[u32]) -> Plan
     requires { ⌜ Room 5 w ⌝ }
-    ensures { λ r. ⌜ (view r ≡ rules.tin (now (mem .entry)) (view w)) × Grown 5 w r ⌝ }
+    ensures { λ r. ⌜ (view r ≡ timers.tin (now (mem .entry)) (view w)) × Grown 5 w r ⌝ }
 {
     let clock = CLOCK_REG + level(w.regs[WDESC_REG]);
     if later(w.regs[clock], w.regs[AREG]) {
@@ -40,7 +26,7 @@ pub fn tin(w: Plan, mem: &[u32]) -> Plan
 
 pub fn talt(w: Plan, mem: &[u32]) -> Plan
     requires { ⌜ Room 2 w ⌝ }
-    ensures { λ r. ⌜ (view r ≡ rules.talt (now (mem .entry)) (view w)) × Grown 2 w r ⌝ }
+    ensures { λ r. ⌜ (view r ≡ timers.talt (now (mem .entry)) (view w)) × Grown 2 w r ⌝ }
 {
     let wptr = w.regs[WDESC_REG] & WPTR_MASK;
     let unset = w_index_word(w, mem, wptr, TLINK_S, TIME_NOT_SET);
@@ -49,7 +35,7 @@ pub fn talt(w: Plan, mem: &[u32]) -> Plan
 
 fn time_now(w: Plan, mem: &[u32]) -> Plan
     requires { ⌜ Room 1 w ⌝ }
-    ensures { λ r. ⌜ (view r ≡ rules.timeNow (now (mem .entry)) (view w)) × Grown 1 w r ⌝ }
+    ensures { λ r. ⌜ (view r ≡ timers.timeNow (now (mem .entry)) (view w)) × Grown 1 w r ⌝ }
 {
     let wptr = w.regs[WDESC_REG] & WPTR_MASK;
     let clock = CLOCK_REG + level(w.regs[WDESC_REG]);
@@ -59,7 +45,7 @@ fn time_now(w: Plan, mem: &[u32]) -> Plan
 // The clock makes the process ready, or it waits in the queue.
 fn taltwt_time(w: Plan, mem: &[u32]) -> Plan
     requires { ⌜ Room 5 w ⌝ }
-    ensures { λ r. ⌜ (view r ≡ rules.taltwtTime (now (mem .entry)) (view w)) × Grown 5 w r ⌝ }
+    ensures { λ r. ⌜ (view r ≡ timers.taltwtTime (now (mem .entry)) (view w)) × Grown 5 w r ⌝ }
 {
     let clock = CLOCK_REG + level(w.regs[WDESC_REG]);
     if later(w.regs[clock], w.regs[AREG]) {
@@ -71,7 +57,7 @@ fn taltwt_time(w: Plan, mem: &[u32]) -> Plan
 
 fn taltwt_link(w: Plan, mem: &[u32]) -> Plan
     requires { ⌜ Room 5 w ⌝ }
-    ensures { λ r. ⌜ (view r ≡ rules.taltwtLink (now (mem .entry)) (view w)) × Grown 5 w r ⌝ }
+    ensures { λ r. ⌜ (view r ≡ timers.taltwtLink (now (mem .entry)) (view w)) × Grown 5 w r ⌝ }
 {
     if w.regs[BREG] == TIME_NOT_SET {
         return wait(w, mem);
@@ -85,7 +71,7 @@ fn taltwt_link(w: Plan, mem: &[u32]) -> Plan
 
 fn taltwt_state(w: Plan, mem: &[u32]) -> Plan
     requires { ⌜ Room 5 w ⌝ }
-    ensures { λ r. ⌜ (view r ≡ rules.taltwtState (now (mem .entry)) (view w)) × Grown 5 w r ⌝ }
+    ensures { λ r. ⌜ (view r ≡ timers.taltwtState (now (mem .entry)) (view w)) × Grown 5 w r ⌝ }
 {
     if w.regs[CREG] == READY {
         return time_now(w, mem);
@@ -97,7 +83,7 @@ fn taltwt_state(w: Plan, mem: &[u32]) -> Plan
 // C is left with the state, then B with TLink.s, then A with the time (DECISIONS 10).
 pub fn taltwt(w: Plan, mem: &[u32]) -> Plan
     requires { ⌜ Room 6 w ⌝ }
-    ensures { λ r. ⌜ (view r ≡ rules.taltwt (now (mem .entry)) (view w)) × Grown 6 w r ⌝ }
+    ensures { λ r. ⌜ (view r ≡ timers.taltwt (now (mem .entry)) (view w)) × Grown 6 w r ⌝ }
 {
     let wptr = w.regs[WDESC_REG] & WPTR_MASK;
     let none = w_index_word(w, mem, wptr, 0, NONE_SELECTED);

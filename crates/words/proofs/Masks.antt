@@ -1,4 +1,4 @@
--- Masks, proved once for every bit number. Assumes nothing.
+-- Masks, proved once for every bit number.
 use mathlib.Core.Path.{_≡_, sym, ap, _∙_}
 use Prim.Native.Nat.{ℕ, _+_, _-_, _*_, _/_, _%_, _^_, _≤_, _<_}
 use native.Mathlib.Omega.{arith}

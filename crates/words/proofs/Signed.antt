@@ -1,4 +1,4 @@
--- What the definitions say over the whole numbers, in natural numbers. Assumes nothing.
+-- What the definitions say over the whole numbers, in natural numbers.
 use mathlib.Core.Path.{_≡_, refl, sym, ap, _∙_}
 use mathlib.Core.Bool.{true, false}
 use Prim.Native.Nat.{ℕ, zero, suc, _+_, _-_, _*_, _/_, _%_, _^_, _≤_, _<_}

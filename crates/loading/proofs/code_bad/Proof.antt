@@ -7,17 +7,8 @@ use Rattle.loading.proofs.code_bad.Tie as tie
 returns : tie.Need-returns
 returns c = code-none _ _ (c .if1 .taken)
 
-sub-result : tie.Need-sub-result
-sub-result c = search needs
-
-sub-result-2 : tie.Need-sub-result-2
-sub-result-2 c = search needs
-
-mul-result : tie.Need-mul-result
-mul-result c = search needs
-
 returns-2 : tie.Need-returns-2
 returns-2 c = code-some _ _ (c .if1 .left) (c .before .pre .0)
 
 pub code-bad-spec : {M : Type 1} → statement M
-code-bad-spec = tie.close (tie.spec returns sub-result sub-result-2 mul-result returns-2)
+code-bad-spec = tie.close (tie.spec returns (λ c. search needs) (λ c. search needs) (λ c. search needs) returns-2)

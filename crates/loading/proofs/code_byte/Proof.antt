@@ -6,9 +6,6 @@ use borrow.Author.Needs.{needs}
 use Rattle.loading.proofs.code_byte.Statement.{statement}
 use Rattle.loading.proofs.code_byte.Tie as tie
 
-shared-slice-read-result : tie.Need-shared-slice-read-result
-shared-slice-read-result c = search needs
-
 cast-result : tie.Need-cast-result
 cast-result c = omega (arith, c .shared-slice-known .given (c .before .before .args .k))
 
@@ -19,4 +16,4 @@ returns-2 : tie.Need-returns-2
 returns-2 c = (past-end (c .before .args .code .now) (c .before .args .k) (c .if1 .left), omega arith)
 
 pub code-byte-spec : {M : Type 1} → statement M
-code-byte-spec = tie.close (tie.spec shared-slice-read-result cast-result returns returns-2)
+code-byte-spec = tie.close (tie.spec (λ c. search needs) cast-result returns returns-2)

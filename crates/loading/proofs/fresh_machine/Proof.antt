@@ -3,11 +3,8 @@ use borrow.Author.Needs.{needs}
 use Rattle.loading.proofs.fresh_machine.Statement.{statement}
 use Rattle.loading.proofs.fresh_machine.Tie as tie
 
-fresh-regs-requires : tie.Need-fresh-regs-requires
-fresh-regs-requires c κs = search needs
-
 returns : tie.Need-returns
 returns c = rw (c .fresh-regs .ensures)
 
 pub fresh-machine-spec : {M : Type 1} → statement M
-fresh-machine-spec = tie.close (tie.spec fresh-regs-requires returns)
+fresh-machine-spec = tie.close (tie.spec (λ c κs. search needs) returns)

@@ -13,12 +13,9 @@ returns-2 : tie.Need-returns-2
 unfolding freshWord
 returns-2 c = rw (no-lt (c .before .if1 .left), yes-lt (c .if2 .taken))
 
-code-word-requires : tie.Need-code-word-requires
-code-word-requires c κs = search needs
-
 returns-3 : tie.Need-returns-3
 unfolding freshWord
 returns-3 c = rw (no-lt (c .before .before .if1 .left), no-lt (c .before .if2 .left)) (c .code-word .ensures)
 
 pub fresh-word-spec : {M : Type 1} → statement M
-fresh-word-spec = tie.close (tie.spec returns returns-2 code-word-requires returns-3)
+fresh-word-spec = tie.close (tie.spec returns returns-2 (λ c κs. search needs) returns-3)

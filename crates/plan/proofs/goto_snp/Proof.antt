@@ -3,12 +3,9 @@ use borrow.Author.Needs.{needs}
 use Rattle.plan.proofs.goto_snp.Statement.{statement}
 use Rattle.plan.proofs.goto_snp.Tie as tie
 
-raise-requires : tie.Need-raise-requires
-raise-requires c κs = search needs
-
 returns : tie.Need-returns
 unfolding gotoSNP
 returns c = search needs
 
 pub goto-snp-spec : {M : Type 1} → statement M
-goto-snp-spec = tie.close (tie.spec raise-requires returns)
+goto-snp-spec = tie.close (tie.spec (λ c κs. search needs) returns)

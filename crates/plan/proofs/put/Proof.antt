@@ -3,15 +3,9 @@ use borrow.Author.Needs.{needs}
 use Rattle.plan.proofs.put.Statement.{statement}
 use Rattle.plan.proofs.put.Tie as tie
 
-mul-t : tie.Need-mul-t
-mul-t c = search needs
-
-element-write-t : tie.Need-element-write-t
-element-write-t c = search needs
-
 returns : tie.Need-returns
 unfolding put
 returns c = search needs
 
 pub put-spec : {M : Type 1} → statement M
-put-spec = tie.close (tie.spec mul-t element-write-t returns)
+put-spec = tie.close (tie.spec (λ c. search needs) (λ c. search needs) returns)

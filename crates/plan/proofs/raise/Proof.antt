@@ -3,18 +3,9 @@ use borrow.Author.Needs.{needs}
 use Rattle.plan.proofs.raise.Statement.{statement}
 use Rattle.plan.proofs.raise.Tie as tie
 
-mul-x : tie.Need-mul-x
-mul-x c = search needs
-
-element-copy-out-x : tie.Need-element-copy-out-x
-element-copy-out-x c = search needs
-
-put-requires : tie.Need-put-requires
-put-requires c κs = search needs
-
 returns : tie.Need-returns
 unfolding raise
 returns c = (c .put .ensures .0, search needs)
 
 pub raise-spec : {M : Type 1} → statement M
-raise-spec = tie.close (tie.spec mul-x element-copy-out-x put-requires returns)
+raise-spec = tie.close (tie.spec (λ c. search needs) (λ c. search needs) (λ c κs. search needs) returns)

@@ -1,16 +1,10 @@
 use mathlib.Core.Path.{sym, _∙_}
 use Prim.Native.Nat.{_-_}
 use Rattle.rules.specs.Calls.{numberOf}
-use Rattle.settling.proofs.Settling.{clear-refused, clear-done}
+use Rattle.journal.proofs.Settled.{clear-refused, clear-done}
 use borrow.Author.Needs.{needs}
 use Rattle.t414.proofs.clear.Statement.{statement}
 use Rattle.t414.proofs.clear.Tie as tie
-
-size-bad-requires : tie.Need-size-bad-requires
-size-bad-requires c κs = search needs
-
-refuse-requires : tie.Need-refuse-requires
-refuse-requires c κs = search needs
 
 returns : tie.Need-returns
 returns c =
@@ -28,4 +22,4 @@ returns-2 c =
     clear-done (a .m) (a .mem .now) (a .journal .now) (sym (z .size-bad .ensures) ∙ i .if1 .left)
 
 pub clear-spec : {M : Type 1} → statement M
-clear-spec = tie.close (tie.spec size-bad-requires refuse-requires returns returns-2)
+clear-spec = tie.close (tie.spec (λ c κs. search needs) (λ c κs. search needs) returns returns-2)

@@ -5,17 +5,14 @@ use lib.ListN.{length}
 use mathlib.Core.Bool.{false}
 use Rattle.rules.specs.Registers.{registers}
 use Rattle.rules.specs.Calls.{event}
-use Rattle.checks.proofs.Refusing.{number-known, stopped, passed}
-use Rattle.settling.proofs.Settling.{ready, event-known}
+use Rattle.journal.proofs.Refusing.{number-known, stopped, passed}
+use Rattle.journal.proofs.Settled.{ready, event-known}
 use borrow.Author.Needs.{needs}
 use Rattle.t414.proofs.event.Statement.{statement}
 use Rattle.t414.proofs.event.Tie as tie
 
 long : (c : tie.Start) → length (c .args .m .regs) ≡ registers
 long c = search needs
-
-first-bad-requires : tie.Need-first-bad-requires
-first-bad-requires c κs = search needs
 
 refuse-requires : tie.Need-refuse-requires
 refuse-requires c κs =
@@ -31,12 +28,6 @@ returns c =
     let a = f .before .before .before .args in
     c .refuse .ensures (a .mem .now) (a .journal .now) ∙ stopped false (a .m) (a .mem .now) (a .journal .now) _ (f .first-bad .result) (f .first-bad .ensures) (i .if1 .taken)
 
-begin-requires : tie.Need-begin-requires
-begin-requires c κs = search needs
-
-event-requires : tie.Need-event-requires
-event-requires c κs = search needs
-
 settle-requires : tie.Need-settle-requires
 settle-requires c κs =
     let v = c .before .before in
@@ -48,12 +39,6 @@ settle-requires c κs =
     let p = v .event .result in
     let e = rw (b .begin .ensures .0) at (v .event .ensures .0) in
     ready false (a .m) (a .mem .now) (a .journal .now) (sym (f .first-bad .ensures) ∙ i .if1 .left) p (event-known (a .m .regs) (long S) p e) (omega (arith, v .event .ensures .1, b .begin .ensures)) (omega (arith, v .event .ensures .1, b .begin .ensures))
-
-same-length : tie.Need-same-length
-same-length c = search needs
-
-same-length-2 : tie.Need-same-length-2
-same-length-2 c = search needs
 
 returns-2 : tie.Need-returns-2
 unfolding event
@@ -70,12 +55,12 @@ pub event-spec : {M : Type 1} → statement M
 event-spec =
     tie.close
     (tie.spec
-    first-bad-requires
+    (λ c κs. search needs)
     refuse-requires
     returns
-    begin-requires
-    event-requires
+    (λ c κs. search needs)
+    (λ c κs. search needs)
     settle-requires
-    same-length
-    same-length-2
+    (λ c. search needs)
+    (λ c. search needs)
     returns-2)

@@ -3,20 +3,11 @@ use mathlib.Core.Path.{sym, _∙_}
 use Prim.Native.Nat.{_-_}
 use lib.ListN.{length}
 use Rattle.rules.specs.Calls.{numberOf}
-use Rattle.checks.proofs.Refusing.{size-good}
+use Rattle.journal.proofs.Refusing.{size-good}
 use Rattle.loading.proofs.Loading.{code-good, fresh-size, fresh-code, fresh-done}
 use borrow.Author.Needs.{needs}
 use Rattle.t414.proofs.fresh.Statement.{statement}
 use Rattle.t414.proofs.fresh.Tie as tie
-
-size-bad-requires : tie.Need-size-bad-requires
-size-bad-requires c κs = search needs
-
-no-machine-requires : tie.Need-no-machine-requires
-no-machine-requires c κs = search needs
-
-refuse-requires : tie.Need-refuse-requires
-refuse-requires c κs = search needs
 
 returns : tie.Need-returns
 returns c =
@@ -31,12 +22,6 @@ code-bad-requires c κs =
     let z = c .before in
     let g = size-good _ _ (sym (z .size-bad .ensures) ∙ c .if1 .left) in
     (g .0, g .1)
-
-no-machine-requires-2 : tie.Need-no-machine-requires-2
-no-machine-requires-2 c κs = search needs
-
-refuse-requires-2 : tie.Need-refuse-requires-2
-refuse-requires-2 c κs = search needs
 
 returns-2 : tie.Need-returns-2
 returns-2 c =
@@ -65,9 +50,6 @@ fresh-machine-requires c κs =
     let s = size-good (length (a .mem .now)) (length (a .journal .now)) (sym (z .size-bad .ensures) ∙ i .if1 .left) in
     omega (arith, g, s)
 
-same-length : tie.Need-same-length
-same-length c = search needs
-
 returns-3 : tie.Need-returns-3
 unfolding numberOf
 returns-3 c =
@@ -83,15 +65,15 @@ pub fresh-spec : {M : Type 1} → statement M
 fresh-spec =
     tie.close
     (tie.spec
-    size-bad-requires
-    no-machine-requires
-    refuse-requires
+    (λ c κs. search needs)
+    (λ c κs. search needs)
+    (λ c κs. search needs)
     returns
     code-bad-requires
-    no-machine-requires-2
-    refuse-requires-2
+    (λ c κs. search needs)
+    (λ c κs. search needs)
     returns-2
     fill-requires
     fresh-machine-requires
-    same-length
+    (λ c. search needs)
     returns-3)

@@ -4,20 +4,14 @@ use Prim.Native.Nat.{_-_}
 use lib.ListN.{length}
 use Rattle.rules.specs.Registers.{registers}
 use Rattle.rules.specs.Calls.{give}
-use Rattle.checks.proofs.Refusing.{number-known, stopped, passed, channel-good, input-good}
-use Rattle.settling.proofs.Settling.{ready, give-known}
+use Rattle.journal.proofs.Refusing.{number-known, stopped, passed, channel-good, input-good}
+use Rattle.journal.proofs.Settled.{ready, give-known}
 use borrow.Author.Needs.{needs}
 use Rattle.t414.proofs.give.Statement.{statement}
 use Rattle.t414.proofs.give.Tie as tie
 
 long : (c : tie.Start) → length (c .args .m .regs) ≡ registers
 long c = search needs
-
-not-input-requires : tie.Need-not-input-requires
-not-input-requires c κs = search needs
-
-first-bad-requires : tie.Need-first-bad-requires
-first-bad-requires c κs = search needs
 
 refuse-requires : tie.Need-refuse-requires
 refuse-requires c κs =
@@ -34,9 +28,6 @@ returns c =
     let n = f .before in
     let a = n .before .before .before .args in
     rw (← n .not-input .ensures) (c .refuse .ensures (a .mem .now) (a .journal .now) ∙ stopped (n .not-input .result) (a .m) (a .mem .now) (a .journal .now) _ (f .first-bad .result) (f .first-bad .ensures) (i .if1 .taken))
-
-begin-requires : tie.Need-begin-requires
-begin-requires c κs = search needs
 
 give-requires : tie.Need-give-requires
 give-requires c κs =
@@ -61,12 +52,6 @@ settle-requires c κs =
     let e = rw (b .begin .ensures .0) at (v .give .ensures .0) in
     ready (n .not-input .result) (a .m) (a .mem .now) (a .journal .now) (sym (f .first-bad .ensures) ∙ i .if1 .left) p (give-known (a .m .regs) (long S) p (a .mem .now) (a .channel) (a .byte) e) (omega (arith, v .give .ensures .1, b .begin .ensures)) (omega (arith, v .give .ensures .1, b .begin .ensures))
 
-same-length : tie.Need-same-length
-same-length c = search needs
-
-same-length-2 : tie.Need-same-length-2
-same-length-2 c = search needs
-
 returns-2 : tie.Need-returns-2
 unfolding give
 returns-2 c =
@@ -83,13 +68,13 @@ pub give-spec : {M : Type 1} → statement M
 give-spec =
     tie.close
     (tie.spec
-    not-input-requires
-    first-bad-requires
+    (λ c κs. search needs)
+    (λ c κs. search needs)
     refuse-requires
     returns
-    begin-requires
+    (λ c κs. search needs)
     give-requires
     settle-requires
-    same-length
-    same-length-2
+    (λ c. search needs)
+    (λ c. search needs)
     returns-2)

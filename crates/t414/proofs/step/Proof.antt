@@ -4,7 +4,7 @@ use lib.ListN.{length}
 use mathlib.Core.Bool.{false}
 use Rattle.rules.specs.Registers.{registers}
 use Rattle.rules.specs.Calls.{step}
-use Rattle.checks.proofs.Refusing.{number-known, stopped, passed, fits, frame-good}
+use Rattle.journal.proofs.Refusing.{number-known, stopped, passed, fits, frame-good}
 use Rattle.t414.proofs.Commons.{common-step-is}
 use borrow.Author.Needs.{needs}
 use Rattle.t414.proofs.step.Statement.{statement}
@@ -12,9 +12,6 @@ use Rattle.t414.proofs.step.Tie as tie
 
 long : (c : tie.Start) → length (c .args .m .regs) ≡ registers
 long c = search needs
-
-first-bad-requires : tie.Need-first-bad-requires
-first-bad-requires c κs = search needs
 
 refuse-requires : tie.Need-refuse-requires
 refuse-requires c κs =
@@ -30,12 +27,6 @@ returns c =
     let a = f .before .before .before .args in
     c .refuse .ensures (a .mem .now) (a .journal .now) ∙ stopped false (a .m) (a .mem .now) (a .journal .now) _ (f .first-bad .result) (f .first-bad .ensures) (i .if1 .taken)
 
-quiet-requires : tie.Need-quiet-requires
-quiet-requires c κs = search needs
-
-common-step-requires : tie.Need-common-step-requires
-common-step-requires c κs = search needs
-
 commit-common-requires : tie.Need-commit-common-requires
 commit-common-requires c κs =
     let i = c .before .before .before .before .before .before .before .before in
@@ -43,12 +34,6 @@ commit-common-requires c κs =
     let a = f .before .before .before .args in
     let h = sym (f .first-bad .ensures) ∙ i .if1 .left in
     (fits false (a .m) (a .mem .now) (a .journal .now) h .1, frame-good false (a .m) (a .mem .now) (a .journal .now) h)
-
-same-length : tie.Need-same-length
-same-length c = search needs
-
-same-length-2 : tie.Need-same-length-2
-same-length-2 c = search needs
 
 returns-2 : tie.Need-returns-2
 unfolding step
@@ -75,12 +60,6 @@ planned-requires c κs =
     let l = fits false (a .m) (a .mem .now) (a .journal .now) h in
     (l .0, l .1, frame-good false (a .m) (a .mem .now) (a .journal .now) h)
 
-same-length-3 : tie.Need-same-length-3
-same-length-3 c = search needs
-
-same-length-4 : tie.Need-same-length-4
-same-length-4 c = search needs
-
 returns-3 : tie.Need-returns-3
 unfolding step
 returns-3 c =
@@ -99,12 +78,6 @@ planned-requires-2 c κs =
     let l = fits false (a .m) (a .mem .now) (a .journal .now) h in
     (l .0, l .1, frame-good false (a .m) (a .mem .now) (a .journal .now) h)
 
-same-length-5 : tie.Need-same-length-5
-same-length-5 c = search needs
-
-same-length-6 : tie.Need-same-length-6
-same-length-6 c = search needs
-
 returns-4 : tie.Need-returns-4
 unfolding step
 returns-4 c =
@@ -118,20 +91,20 @@ pub step-spec : {M : Type 1} → statement M
 step-spec =
     tie.close
     (tie.spec
-    first-bad-requires
+    (λ c κs. search needs)
     refuse-requires
     returns
-    quiet-requires
-    common-step-requires
+    (λ c κs. search needs)
+    (λ c κs. search needs)
     commit-common-requires
-    same-length
-    same-length-2
+    (λ c. search needs)
+    (λ c. search needs)
     returns-2
     planned-requires
-    same-length-3
-    same-length-4
+    (λ c. search needs)
+    (λ c. search needs)
     returns-3
     planned-requires-2
-    same-length-5
-    same-length-6
+    (λ c. search needs)
+    (λ c. search needs)
     returns-4)

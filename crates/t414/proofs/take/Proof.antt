@@ -4,20 +4,14 @@ use Prim.Native.Nat.{_-_}
 use lib.ListN.{length}
 use Rattle.rules.specs.Registers.{registers}
 use Rattle.rules.specs.Calls.{take, notOutput}
-use Rattle.checks.proofs.Refusing.{number-known, stopped, passed, channel-good, output-good}
-use Rattle.settling.proofs.Settling.{ready, take-known}
+use Rattle.journal.proofs.Refusing.{number-known, stopped, passed, channel-good, output-good}
+use Rattle.journal.proofs.Settled.{ready, take-known}
 use borrow.Author.Needs.{needs}
 use Rattle.t414.proofs.take.Statement.{statement}
 use Rattle.t414.proofs.take.Tie as tie
 
 long : (c : tie.Start) → length (c .args .m .regs) ≡ registers
 long c = search needs
-
-not-output-requires : tie.Need-not-output-requires
-not-output-requires c κs = search needs
-
-first-bad-requires : tie.Need-first-bad-requires
-first-bad-requires c κs = search needs
 
 refuse-requires : tie.Need-refuse-requires
 refuse-requires c κs =
@@ -34,9 +28,6 @@ returns c =
     let n = f .before in
     let a = n .before .before .before .args in
     rw (← n .not-output .ensures) (c .refuse .ensures (a .mem .now) (a .journal .now) ∙ stopped (n .not-output .result) (a .m) (a .mem .now) (a .journal .now) _ (f .first-bad .result) (f .first-bad .ensures) (i .if1 .taken))
-
-begin-requires : tie.Need-begin-requires
-begin-requires c κs = search needs
 
 taken-requires : tie.Need-taken-requires
 unfolding notOutput
@@ -60,9 +51,6 @@ take-requires c κs =
     let g = output-good (a .channel) (sym (n .not-output .ensures) ∙ channel-good (n .not-output .result) (a .m) (a .mem .now) (a .journal .now) (sym (f .first-bad .ensures) ∙ i .if1 .left)) in
     (omega (arith, g), (omega (arith, b .begin .ensures), omega (arith, b .begin .ensures)))
 
-cast-settle : tie.Need-cast-settle
-cast-settle c = search needs
-
 settle-requires : tie.Need-settle-requires
 settle-requires c κs =
     let v = c .before .before in
@@ -75,12 +63,6 @@ settle-requires c κs =
     let p = v .take .result in
     let e = rw (b .begin .ensures .0) at (v .take .ensures .0) in
     ready (n .not-output .result) (a .m) (a .mem .now) (a .journal .now) (sym (f .first-bad .ensures) ∙ i .if1 .left) p (take-known (a .m .regs) (long S) p (a .mem .now) (a .channel) e) (omega (arith, v .take .ensures .1, b .begin .ensures)) (omega (arith, v .take .ensures .1, b .begin .ensures))
-
-same-length : tie.Need-same-length
-same-length c = search needs
-
-same-length-2 : tie.Need-same-length-2
-same-length-2 c = search needs
 
 returns-2 : tie.Need-returns-2
 unfolding take
@@ -99,15 +81,15 @@ pub take-spec : {M : Type 1} → statement M
 take-spec =
     tie.close
     (tie.spec
-    not-output-requires
-    first-bad-requires
+    (λ c κs. search needs)
+    (λ c κs. search needs)
     refuse-requires
     returns
-    begin-requires
+    (λ c κs. search needs)
     taken-requires
     take-requires
-    cast-settle
+    (λ c. search needs)
     settle-requires
-    same-length
-    same-length-2
+    (λ c. search needs)
+    (λ c. search needs)
     returns-2)

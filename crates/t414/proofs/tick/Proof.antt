@@ -1,14 +1,11 @@
 use native.Mathlib.Omega.{arith}
-use mathlib.Core.Path.{_≡_, sym, _∙_}
+use mathlib.Core.Path.{sym, _∙_}
 use mathlib.Core.Bool.{false}
 use Rattle.rules.specs.Calls.{tick}
-use Rattle.checks.proofs.Refusing.{number-known, stopped, passed, fits, frame-good}
+use Rattle.journal.proofs.Refusing.{number-known, stopped, passed, fits, frame-good}
 use borrow.Author.Needs.{needs}
 use Rattle.t414.proofs.tick.Statement.{statement}
 use Rattle.t414.proofs.tick.Tie as tie
-
-first-bad-requires : tie.Need-first-bad-requires
-first-bad-requires c κs = search needs
 
 refuse-requires : tie.Need-refuse-requires
 refuse-requires c κs =
@@ -24,9 +21,6 @@ returns c =
     let a = f .before .before .before .args in
     c .refuse .ensures (a .mem .now) (a .journal .now) ∙ stopped false (a .m) (a .mem .now) (a .journal .now) _ (f .first-bad .result) (f .first-bad .ensures) (i .if1 .taken)
 
-tick-requires : tie.Need-tick-requires
-tick-requires c κs = search needs
-
 commit-regs-requires : tie.Need-commit-regs-requires
 commit-regs-requires c κs =
     let i = c .before .before .before .before in
@@ -34,12 +28,6 @@ commit-regs-requires c κs =
     let a = f .before .before .before .args in
     let h = sym (f .first-bad .ensures) ∙ i .if1 .left in
     (fits false (a .m) (a .mem .now) (a .journal .now) h .1, frame-good false (a .m) (a .mem .now) (a .journal .now) h)
-
-same-length : tie.Need-same-length
-same-length c = search needs
-
-same-length-2 : tie.Need-same-length-2
-same-length-2 c = search needs
 
 returns-2 : tie.Need-returns-2
 unfolding tick
@@ -55,11 +43,11 @@ pub tick-spec : {M : Type 1} → statement M
 tick-spec =
     tie.close
     (tie.spec
-    first-bad-requires
+    (λ c κs. search needs)
     refuse-requires
     returns
-    tick-requires
+    (λ c κs. search needs)
     commit-regs-requires
-    same-length
-    same-length-2
+    (λ c. search needs)
+    (λ c. search needs)
     returns-2)

@@ -3,14 +3,11 @@ use mathlib.Core.Path.{_≡_, sym, _∙_}
 use Prim.Native.Nat.{_-_}
 use mathlib.Core.Bool.{false}
 use Rattle.rules.specs.Calls.{undo}
-use Rattle.checks.proofs.Refusing.{number-known, stopped, frame-good}
-use Rattle.settling.proofs.Settling.{undo-none, undo-some}
+use Rattle.journal.proofs.Refusing.{number-known, stopped, frame-good}
+use Rattle.journal.proofs.Settled.{undo-none, undo-some}
 use borrow.Author.Needs.{needs}
 use Rattle.t414.proofs.undo.Statement.{statement}
 use Rattle.t414.proofs.undo.Tie as tie
-
-first-bad-requires : tie.Need-first-bad-requires
-first-bad-requires c κs = search needs
 
 refuse-requires : tie.Need-refuse-requires
 refuse-requires c κs =
@@ -25,9 +22,6 @@ returns c =
     let f = i .before in
     let a = f .before .before .before .args in
     c .refuse .ensures (a .mem .now) (a .journal .now) ∙ stopped false (a .m) (a .mem .now) (a .journal .now) _ (f .first-bad .result) (f .first-bad .ensures) (i .if1 .taken)
-
-refuse-requires-2 : tie.Need-refuse-requires-2
-refuse-requires-2 c κs = search needs
 
 returns-2 : tie.Need-returns-2
 returns-2 c =
@@ -46,12 +40,6 @@ undo-last-requires c κs =
     let z : a .m .depth ≡ 0 → ⊥ = d .if2 .left in
     (frame-good false (a .m) (a .mem .now) (a .journal .now) (sym (f .first-bad .ensures) ∙ i .if1 .left), omega (arith, z))
 
-same-length : tie.Need-same-length
-same-length c = search needs
-
-same-length-2 : tie.Need-same-length-2
-same-length-2 c = search needs
-
 returns-3 : tie.Need-returns-3
 returns-3 c =
     let u = c .before .before in
@@ -65,12 +53,12 @@ pub undo-spec : {M : Type 1} → statement M
 undo-spec =
     tie.close
     (tie.spec
-    first-bad-requires
+    (λ c κs. search needs)
     refuse-requires
     returns
-    refuse-requires-2
+    (λ c κs. search needs)
     returns-2
     undo-last-requires
-    same-length
-    same-length-2
+    (λ c. search needs)
+    (λ c. search needs)
     returns-3)

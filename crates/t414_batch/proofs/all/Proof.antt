@@ -2,14 +2,10 @@ use native.Mathlib.Omega.{arith}
 use Prim.Native.Nat.{_+_, _≤_}
 use lib.ListN.{length}
 use mathlib.Core.Path.{_≡_}
-use Rattle.cases.specs.Sizes.{mostResponse}
+use Rattle.program_io.specs.Sizes.{mostResponse}
 use borrow.Author.Needs.{needs}
 use Rattle.t414_batch.proofs.all.Statement.{statement}
 use Rattle.t414_batch.proofs.all.Tie as tie
-use Rattle.cases.proofs.place.next.Reads as next-reads
-use Rattle.cases.proofs.place.ready.Reads as ready-reads
-use Rattle.cases.proofs.place.start.Reads as start-reads
-use Rattle.t414_batch.proofs.one.Reads as one-reads
 
 abbrev Inv-loop : tie.InvT-loop
 Inv-loop input₀ output₀ mem₀ journal₀ p₀ turns₀ input output mem journal p turns = (p .at ≤ p .end) × (p .end ≤ length input) × (p .out + mostResponse ≤ length output) × (length input ≡ length input₀) × (length output ≡ length output₀) × (length mem ≡ length mem₀) × (length journal ≡ length journal₀)

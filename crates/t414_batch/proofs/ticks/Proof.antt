@@ -3,8 +3,6 @@ use mathlib.Core.Path.{_≡_}
 use borrow.Author.Needs.{needs}
 use Rattle.t414_batch.proofs.ticks.Statement.{statement}
 use Rattle.t414_batch.proofs.ticks.Tie as tie
-use Rattle.answers.proofs.one_if_done.Reads as one-if-done-reads
-use Rattle.t414.proofs.tick.Reads as tick-reads
 
 abbrev Inv-loop : tie.InvT-loop
 Inv-loop n mem₀ journal₀ reply₀ left₀ mem journal reply left = (length mem ≡ length mem₀) × (length journal ≡ length journal₀)

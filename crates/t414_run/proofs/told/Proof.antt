@@ -4,33 +4,12 @@ use borrow.Author.Needs.{needs}
 use Rattle.t414_run.proofs.told.Statement.{statement}
 use Rattle.t414_run.proofs.told.Tie as tie
 
-fresh-requires : tie.Need-fresh-requires
-fresh-requires c κs = search needs
-
-number-of-requires : tie.Need-number-of-requires
-number-of-requires c κs = search needs
-
-same-length : tie.Need-same-length
-same-length c = search needs
-
-same-length-2 : tie.Need-same-length-2
-same-length-2 c = search needs
-
 returns : tie.Need-returns
 returns c =
     let n = c .before in
     let f = n .before .before .before .before .before .before in
     let a = f .before .before .before .before .before .before .args in
     program-end (a .code .now) (a .mem .now) (a .journal .now) (f .fresh .result) _ _ (n .number-of .result) (f .fresh .ensures) (n .number-of .ensures) (c .if1 .taken)
-
-run-requires : tie.Need-run-requires
-run-requires c κs = search needs
-
-same-length-3 : tie.Need-same-length-3
-same-length-3 c = search needs
-
-same-length-4 : tie.Need-same-length-4
-same-length-4 c = search needs
 
 returns-2 : tie.Need-returns-2
 returns-2 c =
@@ -45,12 +24,12 @@ pub told-spec : {M : Type 1} → statement M
 told-spec =
     tie.close
     (tie.spec
-    fresh-requires
-    number-of-requires
-    same-length
-    same-length-2
+    (λ c κs. search needs)
+    (λ c κs. search needs)
+    (λ c. search needs)
+    (λ c. search needs)
     returns
-    run-requires
-    same-length-3
-    same-length-4
+    (λ c κs. search needs)
+    (λ c. search needs)
+    (λ c. search needs)
     returns-2)

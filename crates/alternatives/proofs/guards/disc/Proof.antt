@@ -4,22 +4,13 @@ use Rattle.rules.specs.Channels.{disc}
 use Rattle.alternatives.proofs.guards.disc.Statement.{statement}
 use Rattle.alternatives.proofs.guards.disc.Tie as tie
 
-element-copy-out-if1 : tie.Need-element-copy-out-if1
-element-copy-out-if1 c = search needs
-
-put-requires : tie.Need-put-requires
-put-requires c κs = search needs
-
 returns : tie.Need-returns
 unfolding disc
 returns c = (rw (yes-eq (c .before .if1 .taken)) (c .put .ensures .0), search needs)
-
-disc-channel-requires : tie.Need-disc-channel-requires
-disc-channel-requires c κs = search needs
 
 returns-2 : tie.Need-returns-2
 unfolding disc
 returns-2 c = (rw (no-eq (c .before .if1 .left)) (c .disc-channel .ensures .0), search needs)
 
 pub disc-spec : {M : Type 1} → statement M
-disc-spec = tie.close (tie.spec element-copy-out-if1 put-requires returns disc-channel-requires returns-2)
+disc-spec = tie.close (tie.spec (λ c. search needs) (λ c κs. search needs) returns (λ c κs. search needs) returns-2)

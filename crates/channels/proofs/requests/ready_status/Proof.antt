@@ -4,9 +4,6 @@ use Rattle.rules.specs.Channels.{readyStatus}
 use Rattle.channels.proofs.requests.ready_status.Statement.{statement}
 use Rattle.channels.proofs.requests.ready_status.Tie as tie
 
-w-index-word-requires : tie.Need-w-index-word-requires
-w-index-word-requires c κs = search needs
-
 returns : tie.Need-returns
 unfolding readyStatus
 returns c = (rw (yes-eq (c .before .if1 .taken)) (c .w-index-word .ensures .0), search needs)
@@ -15,19 +12,13 @@ returns-2 : tie.Need-returns-2
 unfolding readyStatus
 returns-2 c = (rw (no-eq (c .before .if1 .left), yes-eq (c .if2 .taken)), search needs)
 
-ready-waiting-requires : tie.Need-ready-waiting-requires
-ready-waiting-requires c κs = search needs
-
 returns-3 : tie.Need-returns-3
 unfolding readyStatus
 returns-3 c = (rw (no-eq (c .before .before .before .if1 .left), no-eq (c .before .before .if2 .left), yes-eq (c .before .if3 .taken)) (c .ready-waiting .ensures .0), search needs)
-
-refuse-requires : tie.Need-refuse-requires
-refuse-requires c κs = search needs
 
 returns-4 : tie.Need-returns-4
 unfolding readyStatus
 returns-4 c = (rw (no-eq (c .before .before .before .if1 .left), no-eq (c .before .before .if2 .left), no-eq (c .before .if3 .left)) (c .refuse .ensures .0), search needs)
 
 pub ready-status-spec : {M : Type 1} → statement M
-ready-status-spec = tie.close (tie.spec w-index-word-requires returns returns-2 ready-waiting-requires returns-3 refuse-requires returns-4)
+ready-status-spec = tie.close (tie.spec (λ c κs. search needs) returns returns-2 (λ c κs. search needs) returns-3 (λ c κs. search needs) returns-4)

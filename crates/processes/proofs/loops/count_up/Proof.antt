@@ -3,18 +3,9 @@ use Rattle.rules.specs.Scheduling.{countUp}
 use Rattle.processes.proofs.loops.count_up.Statement.{statement}
 use Rattle.processes.proofs.loops.count_up.Tie as tie
 
-element-copy-out-r-index-word : tie.Need-element-copy-out-r-index-word
-element-copy-out-r-index-word c = search needs
-
-r-index-word-requires : tie.Need-r-index-word-requires
-r-index-word-requires c κs = search needs
-
-add-to-c-requires : tie.Need-add-to-c-requires
-add-to-c-requires c κs = search needs
-
 returns : tie.Need-returns
 unfolding countUp
 returns c = (rw (← c .before .r-index-word .ensures .0) (c .add-to-c .ensures .0), search needs)
 
 pub count-up-spec : {M : Type 1} → statement M
-count-up-spec = tie.close (tie.spec element-copy-out-r-index-word r-index-word-requires add-to-c-requires returns)
+count-up-spec = tie.close (tie.spec (λ c. search needs) (λ c κs. search needs) (λ c κs. search needs) returns)

@@ -4,18 +4,6 @@ use Rattle.rules.specs.Scheduling.{loopOn}
 use Rattle.processes.proofs.loops.loop_on.Statement.{statement}
 use Rattle.processes.proofs.loops.loop_on.Tie as tie
 
-element-copy-out-positive : tie.Need-element-copy-out-positive
-element-copy-out-positive c = search needs
-
-positive-requires : tie.Need-positive-requires
-positive-requires c κs = search needs
-
-count-up-requires : tie.Need-count-up-requires
-count-up-requires c κs = search needs
-
-loop-back-requires : tie.Need-loop-back-requires
-loop-back-requires c κs = search needs
-
 returns : tie.Need-returns
 unfolding loopOn
 returns c = (
@@ -30,4 +18,4 @@ returns-2 c = (rw (← c .before .positive .ensures, no (c .if1 .left)), search 
 
 pub loop-on-spec : {M : Type 1} → statement M
 loop-on-spec =
-    tie.close (tie.spec element-copy-out-positive positive-requires count-up-requires loop-back-requires returns returns-2)
+    tie.close (tie.spec (λ c. search needs) (λ c κs. search needs) (λ c κs. search needs) (λ c κs. search needs) returns returns-2)

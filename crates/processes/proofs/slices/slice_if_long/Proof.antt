@@ -4,12 +4,6 @@ use Rattle.rules.specs.Scheduling.{sliceIfLong}
 use Rattle.processes.proofs.slices.slice_if_long.Statement.{statement}
 use Rattle.processes.proofs.slices.slice_if_long.Tie as tie
 
-element-copy-out-if1 : tie.Need-element-copy-out-if1
-element-copy-out-if1 c = search needs
-
-slice-out-requires : tie.Need-slice-out-requires
-slice-out-requires c κs = search needs
-
 returns : tie.Need-returns
 unfolding sliceIfLong
 returns c = (rw (yes-le (c .before .if1 .taken)) (c .slice-out .ensures .0), search needs)
@@ -19,4 +13,4 @@ unfolding sliceIfLong
 returns-2 c = (rw (no-le (c .if1 .left)), search needs)
 
 pub slice-if-long-spec : {M : Type 1} → statement M
-slice-if-long-spec = tie.close (tie.spec element-copy-out-if1 slice-out-requires returns returns-2)
+slice-if-long-spec = tie.close (tie.spec (λ c. search needs) (λ c κs. search needs) returns returns-2)

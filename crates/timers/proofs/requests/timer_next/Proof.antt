@@ -8,12 +8,9 @@ returns : tie.Need-returns
 unfolding timerNext
 returns c = (rw (yes-eq (c .if1 .taken)), search needs)
 
-set-next-requires : tie.Need-set-next-requires
-set-next-requires c κs = search needs
-
 returns-2 : tie.Need-returns-2
 unfolding timerNext
 returns-2 c = (rw (no-eq (c .before .if1 .left)) (c .set-next .ensures .0), search needs)
 
 pub timer-next-spec : {M : Type 1} → statement M
-timer-next-spec = tie.close (tie.spec returns set-next-requires returns-2)
+timer-next-spec = tie.close (tie.spec returns (λ c κs. search needs) returns-2)

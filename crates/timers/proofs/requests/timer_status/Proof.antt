@@ -8,19 +8,13 @@ returns : tie.Need-returns
 unfolding timerStatus
 returns c = (rw (yes-eq (c .if1 .taken)), search needs)
 
-timed-out-requires : tie.Need-timed-out-requires
-timed-out-requires c κs = search needs
-
 returns-2 : tie.Need-returns-2
 unfolding timerStatus
 returns-2 c = (rw (no-eq (c .before .before .if1 .left), yes-eq (c .before .if2 .taken)) (c .timed-out .ensures .0), search needs)
-
-refuse-requires : tie.Need-refuse-requires
-refuse-requires c κs = search needs
 
 returns-3 : tie.Need-returns-3
 unfolding timerStatus
 returns-3 c = (rw (no-eq (c .before .before .if1 .left), no-eq (c .before .if2 .left)) (c .refuse .ensures .0), search needs)
 
 pub timer-status-spec : {M : Type 1} → statement M
-timer-status-spec = tie.close (tie.spec returns timed-out-requires returns-2 refuse-requires returns-3)
+timer-status-spec = tie.close (tie.spec returns (λ c κs. search needs) returns-2 (λ c κs. search needs) returns-3)

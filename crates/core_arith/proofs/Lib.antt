@@ -1,0 +1,4 @@
+pub mod Division
+pub mod LongNaturals
+pub mod Normal
+pub mod SumNaturals

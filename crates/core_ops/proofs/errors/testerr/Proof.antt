@@ -1,0 +1,24 @@
+use Rattle.rules.specs.Stack.{testerr}
+use Rattle.rules.proofs.Tests.{yes-eq, no-eq}
+use borrow.Author.Needs.{needs}
+use Rattle.core_ops.proofs.errors.testerr.Statement.{statement}
+use Rattle.core_ops.proofs.errors.testerr.Tie as tie
+
+returns : tie.Need-returns
+unfolding testerr
+returns c = rw (yes-eq (c .before .before .if1 .taken), c .clear-error-flag .ensures, c .before .push .ensures)
+
+returns-2 : tie.Need-returns-2
+unfolding testerr
+returns-2 c = rw (no-eq (c .before .before .if1 .left), c .clear-error-flag2 .ensures, c .before .push2 .ensures)
+
+pub testerr-spec : {M : Type 1} → statement M
+testerr-spec =
+    tie.close
+    (tie.spec
+    (λ c κs. search needs)
+    (λ c κs. search needs)
+    returns
+    (λ c κs. search needs)
+    (λ c κs. search needs)
+    returns-2)

@@ -1,0 +1,112 @@
+// Subscripts, counts and bits (000 1.11), on the seven registers of rules::Core. Arithmetic is in the crates arith and long.
+use crate::stack::result;
+use crate::stack::with_a;
+use rules::Attempt;
+use rules::Core;
+ghost use mathlib.Core.Path.{_≡_};
+ghost use lib.Signed.{shrZ};
+ghost use Rattle.rules.specs.Stack as stack;
+ghost use Rattle.rules.specs.Words.{sign, restoreToRange};
+
+pub fn bsub(s: Core) -> Core
+    ensures { λ r. ⌜ r ≡ stack.bsub s ⌝ }
+{
+    result(words::at_byte(s.a, s.b), s)
+}
+
+pub fn wsub(s: Core) -> Core
+    ensures { λ r. ⌜ r ≡ stack.wsub s ⌝ }
+{
+    result(words::at_word(s.a, s.b), s)
+}
+
+pub fn bcnt(s: Core) -> Core
+    ensures { λ r. ⌜ r ≡ stack.bcnt s ⌝ }
+{
+    with_a(s.a << 2, s)
+}
+
+// A quarter, rounded down: the bits move two places, and the sign is copied.
+pub fn quarter(x: u32) -> u32
+    ensures { λ r. ⌜ r ≡ restoreToRange (shrZ (sign x) 4) ⌝ }
+{
+    if x < 0x8000_0000 { x >> 2 } else { !(!x >> 2) }
+}
+
+// The word count is the shift that copies the sign.
+pub fn wcnt(s: Core) -> Core
+    ensures { λ r. ⌜ r ≡ stack.wcnt s ⌝ }
+{
+    let mut t = s;
+    t.c = s.b;
+    t.b = s.a & 3;
+    t.a = quarter(s.a);
+    t
+}
+
+pub fn and(s: Core) -> Core
+    ensures { λ r. ⌜ r ≡ stack.and s ⌝ }
+{
+    result(s.a & s.b, s)
+}
+
+pub fn or(s: Core) -> Core
+    ensures { λ r. ⌜ r ≡ stack.or s ⌝ }
+{
+    result(s.b | s.a, s)
+}
+
+pub fn xor(s: Core) -> Core
+    ensures { λ r. ⌜ r ≡ stack.xor s ⌝ }
+{
+    result(s.b ^ s.a, s)
+}
+
+pub fn bitnot(s: Core) -> Core
+    ensures { λ r. ⌜ r ≡ stack.bitnot s ⌝ }
+{
+    with_a(!s.a, s)
+}
+
+pub fn goes(s: Core) -> Attempt
+    ensures { λ r. ⌜ r ≡ stack.goes s ⌝ }
+{
+    Attempt {
+        core: s,
+        stops: false,
+    }
+}
+
+pub fn halts(s: Core) -> Attempt
+    ensures { λ r. ⌜ r ≡ stack.halts s ⌝ }
+{
+    Attempt {
+        core: s,
+        stops: true,
+    }
+}
+
+// The language has no shift by 32.
+pub fn shl(s: Core) -> Attempt
+    ensures { λ r. ⌜ r ≡ stack.shl s ⌝ }
+{
+    if 32 < s.a {
+        return halts(s);
+    }
+    if s.a == 32 {
+        return goes(result(0, s));
+    }
+    goes(result(s.b << s.a, s))
+}
+
+pub fn shr(s: Core) -> Attempt
+    ensures { λ r. ⌜ r ≡ stack.shr s ⌝ }
+{
+    if s.a > 32 {
+        return halts(s);
+    }
+    if s.a == 32 {
+        return goes(result(0, s));
+    }
+    goes(result(s.b >> s.a, s))
+}

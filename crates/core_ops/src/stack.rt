@@ -1,0 +1,166 @@
+// The evaluation stack, the operand, the workspace and the instruction pointer.
+use rules::Core;
+use rules::names::*;
+ghost use mathlib.Core.Path.{_≡_};
+ghost use Rattle.rules.specs.Stack as stack;
+ghost use Rattle.rules.specs.Core as core;
+
+// C := B; B := A; A := x.
+pub fn push(x: u32, s: Core) -> Core
+    ensures { λ r. ⌜ r ≡ core.push x s ⌝ }
+{
+    let mut t = s;
+    t.c = s.b;
+    t.b = s.a;
+    t.a = x;
+    t
+}
+
+// A := B; B := C.
+pub fn pop(s: Core) -> Core
+    ensures { λ r. ⌜ r ≡ core.pop s ⌝ }
+{
+    let mut t = s;
+    t.a = s.b;
+    t.b = s.c;
+    t
+}
+
+// A := x; B := C.
+pub fn result(x: u32, s: Core) -> Core
+    ensures { λ r. ⌜ r ≡ core.result x s ⌝ }
+{
+    let mut t = s;
+    t.a = x;
+    t.b = s.c;
+    t
+}
+
+// A := x.
+pub fn with_a(x: u32, s: Core) -> Core
+    ensures { λ r. ⌜ r ≡ core.withA x s ⌝ }
+{
+    let mut t = s;
+    t.a = x;
+    t
+}
+
+// A new workspace with the old priority ORed in.
+pub fn move_workspace(wptr: u32, s: Core) -> Core
+    ensures { λ r. ⌜ r ≡ core.moveWorkspace wptr s ⌝ }
+{
+    let mut t = s;
+    t.wdesc = wptr | words::priority_of(s.wdesc);
+    t
+}
+
+pub fn ldlp(s: Core) -> Core
+    ensures { λ r. ⌜ r ≡ stack.ldlp s ⌝ }
+{
+    push(words::at_word(words::wptr_of(s.wdesc), s.oreg), s)
+}
+
+pub fn ldnlp(s: Core) -> Core
+    ensures { λ r. ⌜ r ≡ stack.ldnlp s ⌝ }
+{
+    with_a(words::at_word(s.a, s.oreg), s)
+}
+
+pub fn ldc(s: Core) -> Core
+    ensures { λ r. ⌜ r ≡ stack.ldc s ⌝ }
+{
+    push(s.oreg, s)
+}
+
+pub fn eqc(s: Core) -> Core
+    ensures { λ r. ⌜ r ≡ stack.eqc s ⌝ }
+{
+    if s.a == s.oreg {
+        with_a(1, s)
+    } else {
+        with_a(0, s)
+    }
+}
+
+// The stack keeps where the jump is taken.
+pub fn cj(s: Core) -> Core
+    ensures { λ r. ⌜ r ≡ stack.cj s ⌝ }
+{
+    if s.a == 0 {
+        let mut t = s;
+        t.iptr = words::at_byte(s.iptr, s.oreg);
+        return t;
+    }
+    pop(s)
+}
+
+pub fn ajw(s: Core) -> Core
+    ensures { λ r. ⌜ r ≡ stack.ajw s ⌝ }
+{
+    move_workspace(words::at_word(words::wptr_of(s.wdesc), s.oreg), s)
+}
+
+pub fn pfix(s: Core) -> Core
+    ensures { λ r. ⌜ r ≡ stack.pfix s ⌝ }
+{
+    let mut t = s;
+    t.oreg = words::prefixed(s.oreg);
+    t
+}
+
+pub fn nfix(s: Core) -> Core
+    ensures { λ r. ⌜ r ≡ stack.nfix s ⌝ }
+{
+    let mut t = s;
+    t.oreg = words::negative_prefixed(s.oreg);
+    t
+}
+
+pub fn rev(s: Core) -> Core
+    ensures { λ r. ⌜ r ≡ stack.rev s ⌝ }
+{
+    let mut t = s;
+    t.a = s.b;
+    t.b = s.a;
+    t
+}
+
+pub fn ldpi(s: Core) -> Core
+    ensures { λ r. ⌜ r ≡ stack.ldpi s ⌝ }
+{
+    with_a(words::at_byte(s.iptr, s.a), s)
+}
+
+// Nothing is masked: an odd A at high priority makes the priority low.
+pub fn gajw(s: Core) -> Core
+    ensures { λ r. ⌜ r ≡ stack.gajw s ⌝ }
+{
+    with_a(words::wptr_of(s.wdesc), move_workspace(s.a, s))
+}
+
+pub fn gcall(s: Core) -> Core
+    ensures { λ r. ⌜ r ≡ stack.gcall s ⌝ }
+{
+    let mut t = s;
+    t.a = s.iptr;
+    t.iptr = s.a;
+    t
+}
+
+pub fn mint(s: Core) -> Core
+    ensures { λ r. ⌜ r ≡ stack.mint s ⌝ }
+{
+    push(MIN_INT, s)
+}
+
+pub fn ldpri(s: Core) -> Core
+    ensures { λ r. ⌜ r ≡ stack.ldpri s ⌝ }
+{
+    push(words::priority_of(s.wdesc), s)
+}
+
+pub fn testpranal(s: Core) -> Core
+    ensures { λ r. ⌜ r ≡ stack.testpranal s ⌝ }
+{
+    push(0, s)
+}

@@ -1,0 +1,92 @@
+// The checks before a call's own, and a refusal by its number.
+use journal_record::bounds;
+use rules::Answer;
+use rules::Machine;
+use rules::Reply;
+ghost use mathlib.Core.Path.{_≡_};
+ghost use mathlib.Core.Bool.{_||_};
+ghost use Prim.Native.Nat.{_≤_};
+ghost use Rattle.rules.specs.Calls as calls;
+ghost use Rattle.rules.specs.Calls.{numberOf};
+ghost use Rattle.journal.specs.Checks.{Refusal, firstBad};
+
+// Whether a memory or a journal of so many words is none that a call takes.
+pub fn size_bad(memory: usize, journal: usize) -> bool
+    ensures { λ r. ⌜ r ≡ calls.memoryBad memory || calls.journalBad journal ⌝ }
+{
+    if memory < 64 {
+        return true;
+    }
+    if 16384 < memory {
+        return true;
+    }
+    65536 < journal
+}
+
+// Whether a channel is no output link.
+pub fn not_output(channel: u32) -> bool
+    ensures { λ r. ⌜ r ≡ calls.notOutput channel ⌝ }
+{
+    4 <= channel
+}
+
+// Whether a channel is no input link.
+pub fn not_input(channel: u32) -> bool
+    ensures { λ r. ⌜ r ≡ calls.notInput channel ⌝ }
+{
+    if channel < 4 {
+        return true;
+    }
+    8 <= channel
+}
+
+// The number of the first of Size, BadChannel (where the channel is wrong), JournalBad that applies, else 0.
+pub fn first_bad(wrong: bool, memory: usize, journal: usize, depth: usize, used: usize) -> u32
+    ensures { λ r. ⌜ r ≡ firstBad wrong memory journal depth used ⌝ }
+{
+    if size_bad(memory, journal) {
+        return 1;
+    }
+    if wrong {
+        return 3;
+    }
+    if bounds::frame_bad(journal, depth, used) {
+        return 4;
+    }
+    0
+}
+
+// The answer of 01's number.
+fn answer_of(number: u32) -> Answer
+    requires { ⌜ number ≤ 12 ⌝ }
+    ensures { λ r. ⌜ numberOf r ≡ number ⌝ }
+{
+    match number {
+        0 => Answer::Done,
+        1 => Answer::Size,
+        2 => Answer::CodeSize,
+        3 => Answer::BadChannel,
+        4 => Answer::JournalBad,
+        5 => Answer::NothingToUndo,
+        6 => Answer::Halted,
+        7 => Answer::Idle,
+        8 => Answer::NotReady,
+        9 => Answer::Unlisted,
+        10 => Answer::Outside,
+        11 => Answer::Stop,
+        _ => Answer::JournalFull,
+    }
+}
+
+// A refusal by its number; it alters nothing.
+pub fn refuse(m: Machine, number: u32) -> Reply
+    requires { ⌜ number ≤ 12 ⌝ }
+    ensures { λ r. ⌜ Refusal number m r ⌝ }
+{
+    let answer = answer_of(number);
+    Reply {
+        machine: m,
+        answer,
+        byte: 0,
+    }
+}

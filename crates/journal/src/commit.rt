@@ -1,0 +1,79 @@
+// The journal of a machine's calls: the commit of a plan appends its record and makes its stores, and undo takes the
+// last record back. A call that makes no plan is committed by the crate brief.
+use crate::stores;
+use crate::undo_parts;
+use journal_record::bounds;
+use journal_record::bounds::FRAME;
+use journal_record::record;
+use journal_record::touched;
+use plan::Plan;
+use rules::Answer;
+use rules::Machine;
+use rules::Reply;
+ghost use mathlib.Core.Path.{_≡_};
+ghost use mathlib.Core.Bool.{false};
+ghost use Prim.Native.Nat.{_+_, _<_, _≤_};
+ghost use lib.ListN.{length};
+ghost use Rattle.rules.specs.Memory.{stores, touched};
+ghost use Rattle.rules.specs.Journal as journalRules;
+ghost use Rattle.rules.specs.Calls.{outcomeOf, recorded, undoLast};
+ghost use Rattle.plan.specs.View.{view};
+
+// Makes a plan real: its record is appended and its stores are made. Where the record does not fit, nothing is written.
+pub fn commit(m: Machine, p: Plan, byte: u8, mem: &mut [u32], journal: &mut [u32]) -> Reply
+    requires { ⌜ (p .cut ≤ p .n) × (p .n ≤ 16) × (length (now mem) ≤ 16384) × (length (now journal) ≤ 65536) × (journalRules.frameBad (length (now journal)) (m .depth) (m .used) ≡ false) ⌝ }
+    ensures { λ r. ⌜ outcomeOf r (now (mem .exit)) (now (journal .exit)) ≡ recorded m (now (mem .entry)) (now (journal .entry)) byte (p .regs) (touched (length (now (mem .entry))) (view p .stored)) (stores (now (mem .entry)) (view p .stored)) ⌝ }
+{
+    let used = m.used;
+    let depth = m.depth;
+    let o = touched::survey(p, mem.len());
+    let count = o.count;
+    if bounds::is_full(journal.len(), used, count) {
+        return bounds::refusal(m, Answer::JournalFull);
+    }
+    let old = m.regs;
+    record::append(journal, mem, o, old, used);
+    stores::make(mem, p);
+    let regs = p.regs;
+    let machine = Machine {
+        regs,
+        depth: depth + 1,
+        used: used + (FRAME + 2 * count),
+    };
+    Reply {
+        machine,
+        answer: Answer::Done,
+        byte,
+    }
+}
+
+// Takes the last record back: registers and memory are as before that call. Writes no journal word.
+pub fn undo_last(m: Machine, mem: &mut [u32], journal: &[u32]) -> Reply
+    requires { ⌜ (journalRules.frameBad (length (now journal)) (m .depth) (m .used) ≡ false) × (0 < m .depth) ⌝ }
+    ensures { λ r. ⌜ outcomeOf r (now (mem .exit)) (now (journal .entry)) ≡ undoLast m (now (mem .entry)) (now (journal .entry)) ⌝ }
+{
+    let used = m.used;
+    let depth = m.depth;
+    let last = used - 1;
+    let pairs = journal[last] as usize;
+    let size = FRAME + 2 * pairs;
+    if used < size {
+        return bounds::refusal(m, Answer::JournalBad);
+    }
+    let start = used - size;
+    if undo_parts::strays(journal, start, pairs, mem.len()) {
+        return bounds::refusal(m, Answer::JournalBad);
+    }
+    undo_parts::write_back(mem, journal, start, pairs);
+    let regs = undo_parts::get_regs(journal, used - FRAME);
+    let machine = Machine {
+        regs,
+        depth: depth - 1,
+        used: start,
+    };
+    Reply {
+        machine,
+        answer: Answer::Done,
+        byte: 0,
+    }
+}

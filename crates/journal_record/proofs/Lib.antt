@@ -1,0 +1,6 @@
+pub mod Frame
+pub mod Merge
+pub mod Outcomes
+pub mod Sorting
+pub mod Within
+pub mod Written

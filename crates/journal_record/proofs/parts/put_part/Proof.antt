@@ -1,0 +1,133 @@
+use borrow.Author.Needs.{needs}
+use native.Mathlib.Omega.{arith}
+use mathlib.Core.Path.{_≡_, refl, sym, _∙_}
+use mathlib.Core.List.{List, _∷_}
+use Prim.Native.Nat.{ℕ, _+_, _-_, _*_, _≤_, _<_}
+use lib.ListN.{length, getD, length-set}
+use lib.Seq.{slice, sets, slice-empty}
+use Rattle.rules.specs.Journal.{olds}
+use Rattle.laws.specs.Lists.{Below}
+use Rattle.journal_record.proofs.Sorting.{cut}
+use Rattle.journal_record.proofs.Written.{olds-turn, olds-done}
+use Rattle.journal_record.proofs.parts.put_part.Statement.{statement}
+use Rattle.journal_record.proofs.parts.put_part.Tie as tie
+
+record Turn (j₀ mem ix : List ℕ) (f t at : ℕ) (j : List ℕ) (w k : ℕ) : Type 0 where
+  fk : f ≤ k
+  kn : k ≤ t
+  small : t ≤ 16
+  lx : length ix ≡ 16
+  len : length j ≡ length j₀
+  room : at + 2 * (t - f) ≤ length j₀
+  here : w ≡ at + 2 * (k - f)
+  below : Below (length mem) (slice k t ix)
+  left : sets j w (olds mem (slice k t ix)) ≡ sets j₀ at (olds mem (slice f t ix))
+
+abbrev Inv-loop : tie.InvT-loop
+Inv-loop journal₀ mem f t at ix w₀ k₀ journal w k = Turn journal₀ mem ix f t at journal w k
+
+abbrev μ-loop : tie.MeasureT-loop
+μ-loop journal₀ mem f t at ix w₀ k₀ journal w k = t - k
+
+-- the words from k on are the one at k and those after it
+cut-k : (c : tie.In-loop Inv-loop μ-loop) → slice (c .before .loop .k) (c .before .before .args .t) (c .before .before .args .t3) ≡ getD (c .before .before .args .t3) (c .before .loop .k) 0 ∷ slice (c .before .loop .k + 1) (c .before .before .args .t) (c .before .before .args .t3)
+cut-k c =
+    let L = c .before in
+    cut (L .before .args .t3) (L .loop .k) (L .before .args .t) (c .loop-test .taken) (omega (arith, L .loop .inv .small, L .loop .inv .lx))
+
+at-k : (c : tie.In-loop Inv-loop μ-loop) → getD (c .before .before .args .t3) (c .before .loop .k) 0 < length (c .before .before .args .mem .now)
+at-k c = (rw (cut-k c) at (c .before .loop .inv .below)) .0
+
+loop-holds : tie.Need-loop-holds Inv-loop μ-loop
+loop-holds c = record { fk = search needs; kn = search needs; small = search needs; lx = search needs; len = refl; room = search needs; here = omega arith; below = c .pre .3; left = refl }
+
+mul-i : tie.Need-mul-i Inv-loop μ-loop
+mul-i c = search needs
+
+array-read-i : tie.Need-array-read-i Inv-loop μ-loop
+array-read-i c = search needs
+
+cast-a : tie.Need-cast-a Inv-loop μ-loop
+cast-a c = search needs
+
+mul-journal : tie.Need-mul-journal Inv-loop μ-loop
+mul-journal c = search needs
+
+slice-write-journal : tie.Need-slice-write-journal Inv-loop μ-loop
+slice-write-journal c = search needs
+
+add-w : tie.Need-add-w Inv-loop μ-loop
+add-w c = search needs
+
+mul-journal-2 : tie.Need-mul-journal-2 Inv-loop μ-loop
+mul-journal-2 c = omega (arith, at-k c)
+
+shared-slice-read-journal : tie.Need-shared-slice-read-journal Inv-loop μ-loop
+shared-slice-read-journal c = omega (arith, at-k (c .before))
+
+mul-journal-3 : tie.Need-mul-journal-3 Inv-loop μ-loop
+mul-journal-3 c = search needs
+
+slice-write-journal-2 : tie.Need-slice-write-journal-2 Inv-loop μ-loop
+slice-write-journal-2 c = simp length-set (omega arith)
+
+add-w-2 : tie.Need-add-w-2 Inv-loop μ-loop
+add-w-2 c = search needs
+
+add-k : tie.Need-add-k Inv-loop μ-loop
+add-k c = search needs
+
+loop-less : tie.Need-loop-less Inv-loop μ-loop
+loop-less c = search needs
+
+loop-again : tie.Need-loop-again Inv-loop μ-loop
+loop-again c =
+    let T = c .before in
+    let L = T .before in
+    let a = L .before .args in
+    let inv = L .loop .inv in
+    record {
+      fk = omega arith;
+      kn = search needs;
+      small = inv .small;
+      lx = inv .lx;
+      len = simp length-set (inv .len);
+      room = inv .room;
+      here = omega arith;
+      below = (rw (cut-k T) at (inv .below)) .1;
+      left = sym (olds-turn (L .loop .journal) (a .mem .now) (L .loop .w) (getD (a .t3) (L .loop .k) 0) (slice (L .loop .k + 1) (a .t) (a .t3))) ∙ (rw (cut-k T) at (inv .left));
+    }
+
+same-length : tie.Need-same-length Inv-loop μ-loop
+same-length c = c .before .loop .inv .len
+
+returns : tie.Need-returns Inv-loop μ-loop
+returns c =
+    let L = c .before in
+    let a = L .before .args in
+    let e : L .loop .k ≡ a .t = omega arith in
+    sym (olds-done (L .loop .journal) (a .mem .now) (L .loop .w)) ∙ (rw (e, slice-empty (a .t) (a .t3)) at (L .loop .inv .left))
+
+pub put-part-spec : {M : Type 1} → statement M
+put-part-spec =
+    tie.close
+    (tie.spec
+    Inv-loop
+    μ-loop
+    loop-holds
+    mul-i
+    array-read-i
+    cast-a
+    mul-journal
+    slice-write-journal
+    add-w
+    mul-journal-2
+    shared-slice-read-journal
+    mul-journal-3
+    slice-write-journal-2
+    add-w-2
+    add-k
+    loop-less
+    loop-again
+    same-length
+    returns)

@@ -1,0 +1,110 @@
+use borrow.Author.Needs.{needs}
+use native.Mathlib.Omega.{arith}
+use mathlib.Core.Path.{_≡_, refl, sym, _∙_}
+use mathlib.Core.List.{List}
+use Prim.Native.Nat.{ℕ, _+_, _-_, _*_, _≤_}
+use lib.ListN.{length, length-set}
+use lib.Seq.{sets}
+use Rattle.rules.specs.Journal.{olds}
+use Rattle.journal_record.specs.Indices.{range}
+use Rattle.journal_record.proofs.Written.{olds-turn, olds-done, range-cut}
+use Rattle.journal_record.proofs.parts.put_range.Statement.{statement}
+use Rattle.journal_record.proofs.parts.put_range.Tie as tie
+
+record Turn (j₀ mem : List ℕ) (lo count at : ℕ) (j : List ℕ) (i w left : ℕ) : Type 0 where
+  len : length j ≡ length j₀
+  inside : i + left ≤ length mem
+  small : length mem ≤ 16384
+  room : w + 2 * left ≤ length j₀
+  rest : sets j w (olds mem (range i left)) ≡ sets j₀ at (olds mem (range lo count))
+
+abbrev Inv-loop : tie.InvT-loop
+Inv-loop journal₀ mem lo count at i₀ w₀ left₀ journal i w left = Turn journal₀ mem lo count at journal i w left
+
+abbrev μ-loop : tie.MeasureT-loop
+μ-loop journal₀ mem lo count at i₀ w₀ left₀ journal i w left = left
+
+loop-holds : tie.Need-loop-holds Inv-loop μ-loop
+loop-holds c = record { len = refl; inside = search needs; small = search needs; room = search needs; rest = refl }
+
+cast-journal : tie.Need-cast-journal Inv-loop μ-loop
+cast-journal c = search needs
+
+mul-journal : tie.Need-mul-journal Inv-loop μ-loop
+mul-journal c = search needs
+
+slice-write-journal : tie.Need-slice-write-journal Inv-loop μ-loop
+slice-write-journal c = search needs
+
+add-w : tie.Need-add-w Inv-loop μ-loop
+add-w c = search needs
+
+mul-journal-2 : tie.Need-mul-journal-2 Inv-loop μ-loop
+mul-journal-2 c = search needs
+
+shared-slice-read-journal : tie.Need-shared-slice-read-journal Inv-loop μ-loop
+shared-slice-read-journal c = search needs
+
+mul-journal-3 : tie.Need-mul-journal-3 Inv-loop μ-loop
+mul-journal-3 c = search needs
+
+slice-write-journal-2 : tie.Need-slice-write-journal-2 Inv-loop μ-loop
+slice-write-journal-2 c = simp length-set (omega arith)
+
+add-w-2 : tie.Need-add-w-2 Inv-loop μ-loop
+add-w-2 c = search needs
+
+add-i : tie.Need-add-i Inv-loop μ-loop
+add-i c = search needs
+
+sub-left : tie.Need-sub-left Inv-loop μ-loop
+sub-left c = search needs
+
+loop-less : tie.Need-loop-less Inv-loop μ-loop
+loop-less c = search needs
+
+loop-again : tie.Need-loop-again Inv-loop μ-loop
+loop-again c =
+    let L = c .before .before in
+    let i = L .loop .i in
+    let w = L .loop .w in
+    let mem = L .before .args .mem .now in
+    record {
+      len = simp length-set (L .loop .inv .len);
+      inside = omega arith;
+      small = L .loop .inv .small;
+      room = omega arith;
+      rest = sym (olds-turn (L .loop .journal) mem w i (range (i + 1) (L .loop .left - 1))) ∙ (rw (range-cut i (L .loop .left) (c .before .loop-test .taken)) at (L .loop .inv .rest));
+    }
+
+same-length : tie.Need-same-length Inv-loop μ-loop
+same-length c = c .before .loop .inv .len
+
+returns : tie.Need-returns Inv-loop μ-loop
+returns c =
+    let L = c .before in
+    let e : L .loop .left ≡ 0 = omega arith in
+    sym (olds-done (L .loop .journal) (L .before .args .mem .now) (L .loop .w)) ∙ (rw e at (L .loop .inv .rest))
+
+pub put-range-spec : {M : Type 1} → statement M
+put-range-spec =
+    tie.close
+    (tie.spec
+    Inv-loop
+    μ-loop
+    loop-holds
+    cast-journal
+    mul-journal
+    slice-write-journal
+    add-w
+    mul-journal-2
+    shared-slice-read-journal
+    mul-journal-3
+    slice-write-journal-2
+    add-w-2
+    add-i
+    sub-left
+    loop-less
+    loop-again
+    same-length
+    returns)

@@ -1,0 +1,103 @@
+// The parts of a record: for each word touched its index and the word that memory holds there before the call, and the registers before the
+// call.
+use crate::touched::Outline;
+use rules::REGISTERS;
+ghost use mathlib.Core.Path.{_≡_};
+ghost use Prim.Native.Nat.{_+_, _-_, _*_, _≤_};
+ghost use lib.ListN.{length, take};
+ghost use lib.Seq.{sets, slice};
+ghost use Rattle.rules.specs.Registers.{registers};
+ghost use Rattle.rules.specs.Journal as journalRules;
+ghost use Rattle.laws.specs.Lists.{Below};
+ghost use Rattle.journal_record.specs.Indices.{range};
+ghost use Rattle.journal_record.specs.Outline.{Outlined, listed};
+
+// How many registers are written first.
+const HALF: usize = 23;
+
+// Writes the pairs of the words that ix lists from f up to t.
+fn put_part(journal: &mut [u32], mem: &[u32], ix: [u32; 16], f: usize, t: usize, at: usize)
+    requires { ⌜ (f ≤ t) × (t ≤ 16) × (at + 2 * (t - f) ≤ length (now journal)) × Below (length (now mem)) (slice f t ix) ⌝ }
+    ensures { λ _. ⌜ now (journal .exit) ≡ sets (now (journal .entry)) at (journalRules.olds (now (mem .entry)) (slice f t ix)) ⌝ }
+{
+    let mut w = at;
+    let mut k = f;
+    while k < t {
+        let i = ix[k];
+        let a = i as usize;
+        journal[w] = i;
+        w += 1;
+        journal[w] = mem[a];
+        w += 1;
+        k += 1;
+    }
+}
+
+// Writes the pairs of the count words from lo.
+fn put_range(journal: &mut [u32], mem: &[u32], lo: usize, count: usize, at: usize)
+    requires { ⌜ (lo + count ≤ length (now mem)) × (length (now mem) ≤ 16384) × (at + 2 * count ≤ length (now journal)) ⌝ }
+    ensures { λ _. ⌜ now (journal .exit) ≡ sets (now (journal .entry)) at (journalRules.olds (now (mem .entry)) (range lo count)) ⌝ }
+{
+    let mut i = lo;
+    let mut w = at;
+    let mut left = count;
+    while 0 < left {
+        journal[w] = i as u32;
+        w += 1;
+        journal[w] = mem[i];
+        w += 1;
+        i += 1;
+        left -= 1;
+    }
+}
+
+// Writes the pairs of the single words below the span, then those of the span.
+fn put_front(journal: &mut [u32], mem: &[u32], o: Outline, at: usize)
+    requires { ⌜ Outlined (length (now mem)) o × (length (now mem) ≤ 16384) × (at + 2 * (o .low + o .c) ≤ length (now journal)) ⌝ }
+    ensures { λ _. ⌜ now (journal .exit) ≡ sets (sets (now (journal .entry)) at (journalRules.olds (now (mem .entry)) (take (o .low) (o .ix)))) (at + 2 * o .low) (journalRules.olds (now (mem .entry)) (range (o .lo) (o .c))) ⌝ }
+{
+    let ix = o.ix;
+    let low = o.low;
+    let lo = o.lo;
+    let c = o.c;
+    let next = at + 2 * low;
+    put_part(journal, mem, ix, 0, low, at);
+    put_range(journal, mem, lo, c, next);
+}
+
+// Writes all pairs.
+pub fn put_pairs(journal: &mut [u32], mem: &[u32], o: Outline, at: usize)
+    requires { ⌜ Outlined (length (now mem)) o × (length (now mem) ≤ 16384) × (at + 2 * o .count ≤ length (now journal)) ⌝ }
+    ensures { λ _. ⌜ now (journal .exit) ≡ sets (now (journal .entry)) at (journalRules.olds (now (mem .entry)) (listed o)) ⌝ }
+{
+    let ix = o.ix;
+    let mid = o.mid;
+    let end = o.end;
+    let next = at + 2 * (o.low + o.c);
+    put_front(journal, mem, o, at);
+    put_part(journal, mem, ix, mid, end, next);
+}
+
+// Writes the registers from f up to t.
+fn put_some(journal: &mut [u32], regs: [u32; REGISTERS], f: usize, t: usize, at: usize)
+    requires { ⌜ (f ≤ t) × (t ≤ registers) × (at + (t - f) ≤ length (now journal)) ⌝ }
+    ensures { λ _. ⌜ now (journal .exit) ≡ sets (now (journal .entry)) at (slice f t regs) ⌝ }
+{
+    let mut w = at;
+    let mut k = f;
+    while k < t {
+        journal[w] = regs[k];
+        w += 1;
+        k += 1;
+    }
+}
+
+// Writes the registers, in two halves: a copy of up to 128 bytes is compiled to moves, a longer one to a call.
+pub fn put_regs(journal: &mut [u32], regs: [u32; REGISTERS], at: usize)
+    requires { ⌜ at + registers ≤ length (now journal) ⌝ }
+    ensures { λ _. ⌜ now (journal .exit) ≡ sets (now (journal .entry)) at regs ⌝ }
+{
+    let next = at + HALF;
+    put_some(journal, regs, 0, HALF, at);
+    put_some(journal, regs, HALF, REGISTERS, next);
+}

@@ -1,0 +1,117 @@
+use borrow.Author.Needs.{needs}
+use native.Mathlib.Omega.{arith}
+use mathlib.Core.Path.{_≡_, refl, sym, _∙_}
+use Prim.Native.Nat.{ℕ, _+_, _*_, _≤_, _<_}
+use lib.Seq.{sets}
+use lib.ListN.{length}
+use borrow.Author.Tests.{ltb-true, ltb-false}
+use Rattle.rules.specs.Registers.{withCore}
+use Rattle.rules.specs.Memory.{touched, stores}
+use Rattle.rules.specs.Journal.{recordLength, olds}
+use Rattle.rules.specs.declared.Answer.the-variants.{JournalFull}
+use Rattle.step_fast.specs.declared.Swift.{Swift}
+use Rattle.journal_small.specs.Count.{Counted, storesOf}
+use Rattle.journal_record.proofs.Frame.{frame-good}
+use Rattle.journal_record.proofs.Outcomes.{refusal-is, number-full, commit-full, commit-done}
+use Rattle.journal_small.proofs.Brief.{comes, record-written, listed-length}
+use Rattle.journal_small.proofs.commit_common.Statement.{statement}
+use Rattle.journal_small.proofs.commit_common.Tie as tie
+
+good : (c : tie.Start) → (c .args .m .used ≤ length (c .args .journal .now)) × (recordLength 0 * c .args .m .depth ≤ c .args .m .used) × (length (c .args .journal .now) ≤ 65536)
+good c = let f = frame-good _ _ _ (c .pre .1) in (f .0, f .1, c .pre .0)
+
+length-of : (t : Swift) (n size : ℕ) → Counted size t n → length (touched size (storesOf t)) ≡ n
+length-of t n size e = rw (← e .touches) (listed-length n (t .index) (e .few))
+
+is-full-requires : tie.Need-is-full-requires
+is-full-requires c κs =
+    let S = c .before .before .before in
+    (good S .0, omega (arith, c .count .ensures .few))
+
+returns : tie.Need-returns
+returns c =
+    let i = c .before in
+    let f = i .before in
+    let k = f .before in
+    let a = k .before .before .before .args in
+    let e = k .count .ensures in
+    let l = length-of (a .t) (k .count .result) (length (a .mem .now)) e in
+    let u : length (a .journal .now) < a .m .used + recordLength (length (touched (length (a .mem .now)) (storesOf (a .t)))) =
+    rw l (ltb-true _ _ (sym (f .is-full .ensures) ∙ i .if1 .taken)) in
+    refusal-is (c .refusal .result) (a .m) (a .mem .now) (a .journal .now) JournalFull (c .refusal .ensures)
+    ∙ rw number-full (commit-full (a .m) (a .mem .now) (a .journal .now) 0 (withCore (a .t .core) (a .m .regs)) (touched (length (a .mem .now)) (storesOf (a .t))) (stores (a .mem .now) (storesOf (a .t))) u)
+    ∙ comes (a .m) (a .mem .now) (a .journal .now) (a .t)
+
+add-at : tie.Need-add-at
+add-at c =
+    let n = c .before .before .before in
+    let S = n .before .before .before in
+    omega (arith, good S, n .count .ensures .few)
+
+make-requires : tie.Need-make-requires
+make-requires c κs =
+    let i = c .before .before .before in
+    let k = i .before .before in
+    let a = k .before .before .before .args in
+    let u : a .m .used + recordLength (k .count .result) ≤ length (a .journal .now) = ltb-false _ _ (sym (i .before .is-full .ensures) ∙ i .if1 .left) in
+    (omega (arith, u), k .count .ensures .inside)
+
+put-tail-requires : tie.Need-put-tail-requires
+put-tail-requires c κs =
+    let i = c .before .before .before .before .before .before .before .before .before in
+    let k = i .before .before in
+    let a = k .before .before .before .args in
+    let u : a .m .used + recordLength (k .count .result) ≤ length (a .journal .now) = ltb-false _ _ (sym (i .before .is-full .ensures) ∙ i .if1 .left) in
+    omega (arith, u)
+
+add-t11 : tie.Need-add-t11
+add-t11 c =
+    let S = c .before .before .before .before .before .before .before .before .before .before .before .before .before .before .before .before .before .before .before in
+    omega (arith, good S)
+
+add-t24 : tie.Need-add-t24
+add-t24 c =
+    let k = c .before .before .before .before .before .before .before .before .before .before .before .before .before .before .before .before in
+    omega (arith, good (k .before .before .before), k .count .ensures .few)
+
+returns-2 : tie.Need-returns-2
+returns-2 c =
+    let w = c .before in
+    let p = w .before .before .before in
+    let g = p .before .before .before .before .before .before in
+    let i = g .before .before .before .before in
+    let k = i .before .before in
+    let a = k .before .before .before .args in
+    let n = k .count .result in
+    let e = k .count .ensures in
+    let ks = touched (length (a .mem .now)) (storesOf (a .t)) in
+    let l = length-of (a .t) n (length (a .mem .now)) e in
+    let j : g .make .last .1 .0 ≡ sets (a .journal .now) (a .m .used) (olds (a .mem .now) ks) = rw (e .touches) at (g .make .ensures .0) in
+    rw (w .with-core .ensures)
+    (commit-done (a .m) (a .mem .now) (a .journal .now) 0 (withCore (a .t .core) (a .m .regs)) ks (stores (a .mem .now) (storesOf (a .t))) n _ _ l
+    (ltb-false _ _ (sym (i .before .is-full .ensures) ∙ i .if1 .left))
+    (g .make .ensures .1 ∙ e .makes (a .mem .now) refl)
+    (p .put-tail .ensures ∙ rw j (record-written (a .journal .now) (a .mem .now) (a .m .regs) ks (a .m .used) n l))
+    ∙ comes (a .m) (a .mem .now) (a .journal .now) (a .t))
+
+pub commit-common-spec : {M : Type 1} → statement M
+commit-common-spec =
+    tie.close
+    (tie.spec
+    (λ c κs. search needs)
+    is-full-requires
+    (λ c κs. search needs)
+    returns
+    (λ c. search needs)
+    add-at
+    make-requires
+    (λ c. search needs)
+    put-tail-requires
+    (λ c κs. search needs)
+    add-t11
+    (λ c. search needs)
+    (λ c. search needs)
+    add-t24
+    (λ c. search needs)
+    (λ c. search needs)
+    returns-2)

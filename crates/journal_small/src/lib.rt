@@ -1,0 +1,136 @@
+// The commit of a common step, whose record has no pair or one, and of a call that changes registers alone. The same words as the commit of a plan
+// would write, with less work.
+use journal_record::bounds::FRAME;
+use journal_record::bounds::is_full;
+use journal_record::bounds::refusal;
+use journal_record::parts::put_regs;
+use rules::Answer;
+use rules::Core;
+use rules::Machine;
+use rules::REGISTERS;
+use rules::Reply;
+use step_fast::Swift;
+ghost use mathlib.Core.Path.{_≡_};
+ghost use mathlib.Core.Bool.{false};
+ghost use mathlib.Core.List.{[], _∷_, _++_};
+ghost use Prim.Native.Nat.{_+_, _*_, _<_, _≤_};
+ghost use lib.ListN.{length, getD};
+ghost use lib.Seq.{sets};
+ghost use Rattle.rules.specs.Registers.{registers, withCore};
+ghost use Rattle.rules.specs.Work.{begin};
+ghost use Rattle.rules.specs.Journal.{olds, frameBad};
+ghost use Rattle.rules.specs.Calls.{outcomeOf, settled};
+ghost use Rattle.step_fast.specs.Swift.{swiftWork};
+ghost use Rattle.journal_small.specs.Count.{Counted, listed, made};
+
+// The registers with the seven of s.
+fn with_core(regs: [u32; REGISTERS], s: Core) -> [u32; REGISTERS]
+    ensures { λ r. ⌜ r ≡ withCore s regs ⌝ }
+{
+    let mut t = regs;
+    t[0] = s.iptr;
+    t[1] = s.wdesc;
+    t[2] = s.a;
+    t[3] = s.b;
+    t[4] = s.c;
+    t[5] = s.oreg;
+    t[6] = s.status;
+    t
+}
+
+// Writes the registers and the number of pairs.
+fn put_tail(journal: &mut [u32], regs: [u32; REGISTERS], n: u32, at: usize)
+    requires { ⌜ at + (registers + 1) ≤ length (now journal) ⌝ }
+    ensures { λ _. ⌜ now (journal .exit) ≡ sets (now (journal .entry)) at (regs ++ (n ∷ [])) ⌝ }
+{
+    let last = at + REGISTERS;
+    put_regs(journal, regs, at);
+    journal[last] = n;
+}
+
+// Writes a pair: the index and what the memory holds there.
+fn put_pair(journal: &mut [u32], mem: &[u32], i: u32, at: usize)
+    requires { ⌜ (at + 2 ≤ length (now journal)) × (i < length (now mem)) ⌝ }
+    ensures { λ _. ⌜ now (journal .exit) ≡ sets (now (journal .entry)) at (i ∷ getD (now (mem .entry)) i 0 ∷ []) ⌝ }
+{
+    let k = i as usize;
+    let next = at + 1;
+    journal[at] = i;
+    journal[next] = mem[k];
+}
+
+// How many words the step stores to, 0 or 1. A store past the end of memory is none.
+fn count(t: Swift, size: usize) -> usize
+    ensures { λ r. ⌜ Counted size t r ⌝ }
+{
+    let stores = t.stores;
+    if stores {
+        if (t.index as usize) < size {
+            return 1;
+        }
+        return 0;
+    }
+    0
+}
+
+// Writes the pair of the word at i and stores v there; nothing where n is 0.
+fn make(mem: &mut [u32], journal: &mut [u32], n: usize, i: u32, v: u32, at: usize)
+    requires { ⌜ (at + 2 * n ≤ length (now journal)) × (0 < n → i < length (now mem)) ⌝ }
+    ensures { λ _. ⌜ (now (journal .exit) ≡ sets (now (journal .entry)) at (olds (now (mem .entry)) (listed n i))) × (now (mem .exit) ≡ made n i v (now (mem .entry))) ⌝ }
+{
+    if 0 < n {
+        let k = i as usize;
+        put_pair(journal, mem, i, at);
+        mem[k] = v;
+    }
+}
+
+// A common step made real. In one piece: a machine or a reply that is handed on is copied.
+pub fn commit_common(m: Machine, t: Swift, mem: &mut [u32], journal: &mut [u32]) -> Reply
+    requires { ⌜ (length (now journal) ≤ 65536) × (frameBad (length (now journal)) (m .depth) (m .used) ≡ false) ⌝ }
+    ensures { λ r. ⌜ outcomeOf r (now (mem .exit)) (now (journal .exit)) ≡ settled m (now (mem .entry)) (now (journal .entry)) 0 (swiftWork (m .regs) t) ⌝ }
+{
+    let used = m.used;
+    let n = count(t, mem.len());
+    if is_full(journal.len(), used, n) {
+        return refusal(m, Answer::JournalFull);
+    }
+    let old = m.regs;
+    let at = used + 2 * n;
+    make(mem, journal, n, t.index, t.value, used);
+    put_tail(journal, old, n as u32, at);
+    let regs = with_core(old, t.core);
+    let machine = Machine {
+        regs,
+        depth: m.depth + 1,
+        used: used + (FRAME + 2 * n),
+    };
+    Reply {
+        machine,
+        answer: Answer::Done,
+        byte: 0,
+    }
+}
+
+// A call that changes registers alone, made real: they become regs.
+pub fn commit_regs(m: Machine, regs: [u32; REGISTERS], mem: &[u32], journal: &mut [u32]) -> Reply
+    requires { ⌜ (length (now journal) ≤ 65536) × (frameBad (length (now journal)) (m .depth) (m .used) ≡ false) ⌝ }
+    ensures { λ r. ⌜ outcomeOf r (now (mem .entry)) (now (journal .exit)) ≡ settled m (now (mem .entry)) (now (journal .entry)) 0 (begin regs) ⌝ }
+{
+    let used = m.used;
+    if is_full(journal.len(), used, 0) {
+        return refusal(m, Answer::JournalFull);
+    }
+    let old = m.regs;
+    put_tail(journal, old, 0, used);
+    let machine = Machine {
+        regs,
+        depth: m.depth + 1,
+        used: used + FRAME,
+    };
+    Reply {
+        machine,
+        answer: Answer::Done,
+        byte: 0,
+    }
+}

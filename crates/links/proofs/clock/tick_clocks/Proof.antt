@@ -1,0 +1,20 @@
+use borrow.Author.Needs.{needs}
+use Rattle.rules.specs.Work.{put}
+use Rattle.rules.specs.Links.{tickClocks}
+use Rattle.links.proofs.clock.tick_clocks.Statement.{statement}
+use Rattle.links.proofs.clock.tick_clocks.Tie as tie
+
+returns : tie.Need-returns
+unfolding tickClocks put
+returns c = rw (← c .before .before .at-byte .ensures, ← c .before .tick-prescaler .ensures) (c .tick-slice .ensures)
+
+pub tick-clocks-spec : {M : Type 1} → statement M
+tick-clocks-spec =
+    tie.close
+    (tie.spec
+    (λ c. search needs)
+    (λ c κs. search needs)
+    (λ c. search needs)
+    (λ c κs. search needs)
+    (λ c κs. search needs)
+    returns)

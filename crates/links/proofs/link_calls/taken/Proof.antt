@@ -1,0 +1,11 @@
+use borrow.Author.Needs.{needs}
+use Rattle.rules.specs.Links.{taken}
+use Rattle.links.proofs.link_calls.taken.Statement.{statement}
+use Rattle.links.proofs.link_calls.taken.Tie as tie
+
+returns : tie.Need-returns
+unfolding taken
+returns c = (c .byte-at .ensures .0, search needs)
+
+pub taken-spec : {M : Type 1} → statement M
+taken-spec = tie.close (tie.spec (λ c. search needs) (λ c. search needs) (λ c. search needs) (λ c. search needs) (λ c κs. search needs) returns)

@@ -1,2 +1,0 @@
-pub mod Naturals
-pub mod Normal

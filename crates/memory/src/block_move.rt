@@ -1,0 +1,95 @@
+// The block move (000 1.10) in one step (01, One step): where it first leaves memory, and its place in the plan, or its refusal.
+use plan::Plan;
+use plan::refuse_at;
+use rules::names::*;
+use words::at_byte;
+use words::offset;
+ghost use mathlib.Core.Path.{_≡_};
+ghost use Prim.Native.Nat.{_<_};
+ghost use lib.ListN.{length};
+ghost use Rattle.rules.specs.Memory.{bytes};
+ghost use Rattle.rules.specs.Work as work;
+ghost use Rattle.plan.specs.View.{view, Room, Ended};
+ghost use Rattle.memory.specs.Places as places;
+
+// The first access of a move that is outside memory; kind 0 where there is none.
+pub struct First {
+    pub kind: u32,
+    pub address: u32,
+}
+
+// How many of the n bytes from an address come before the first that is outside memory.
+fn reach(mem: &[u32], a: u32, n: u32) -> u32
+    ensures { λ r. ⌜ r ≡ places.reach (length (now (mem .entry))) a n ⌝ }
+{
+    // So much memory has every address.
+    if 0x4000_0000 <= mem.len() {
+        return n;
+    }
+    let at = offset(a) as usize;
+    let end = 4 * mem.len();
+    if end <= at {
+        return 0;
+    }
+    let room = end - at;
+    if n as usize <= room {
+        return n;
+    }
+    room as u32
+}
+
+// Bytes go in rising order, each loaded just before it is stored; so at the same byte the load is first.
+pub fn move_outside(mem: &[u32], source: u32, destination: u32, n: u32) -> First
+    ensures { λ r. ⌜ (r .kind, r .address) ≡ work.moveOutside (now (mem .entry)) source destination n ⌝ }
+{
+    let s = reach(mem, source, n);
+    let d = reach(mem, destination, n);
+    if d < s {
+        return First {
+            kind: KIND_STORE,
+            address: at_byte(destination, d),
+        };
+    }
+    if s < n {
+        return First {
+            kind: KIND_LOAD,
+            address: at_byte(source, s),
+        };
+    }
+    First {
+        kind: 0,
+        address: 0,
+    }
+}
+
+// The move after the stores so far, where nothing is refused.
+pub fn append_move(w: Plan, s: u32, d: u32, n: u32) -> Plan
+    requires { ⌜ (0 < n) × Room 0 w × (w .count ≡ 0) ⌝ }
+    ensures { λ r. ⌜ (view r ≡ work.append (bytes s d n) (view w)) × Ended 0 w r ⌝ }
+{
+    if w.answer == 0 {
+        let before = w.n;
+        let mut t = w;
+        t.cut = before;
+        t.source = s;
+        t.target = d;
+        t.count = n;
+        return t;
+    }
+    w
+}
+
+// All bytes of a move, or the refusal of its first access outside memory; count 0 moves nothing.
+pub fn transfer(w: Plan, mem: &[u32], source: u32, destination: u32, n: u32) -> Plan
+    requires { ⌜ Room 0 w × (w .count ≡ 0) ⌝ }
+    ensures { λ r. ⌜ (view r ≡ work.transfer (now (mem .entry)) source destination n (view w)) × Ended 0 w r ⌝ }
+{
+    if n == 0 {
+        return w;
+    }
+    let first = move_outside(mem, source, destination, n);
+    if first.kind == 0 {
+        return append_move(w, offset(source), offset(destination), n);
+    }
+    refuse_at(w, OUTSIDE, first.kind, first.address)
+}

@@ -1,0 +1,57 @@
+// End process (000 1.11, Scheduling), on a plan: each function is the code of a definition of rules/specs/Scheduling.antt, its calls nested as
+// there.
+use memory::loads::word_at;
+use memory::store::load_word;
+use memory::store::r_index_word;
+use memory::store::w_index_word;
+use plan::Plan;
+use plan::goto_snp;
+use plan::put;
+use rules::names::*;
+use words::at_byte;
+use words::at_word;
+ghost use mathlib.Core.Path.{_≡_};
+ghost use Rattle.plan.specs.View.{view, Room, Grown};
+ghost use Rattle.rules.specs.Scheduling as scheduling;
+
+// The last of the processes goes on after them.
+fn end_last(w: Plan, mem: &[u32]) -> Plan
+    requires { ⌜ Room 0 w ⌝ }
+    ensures { λ r. ⌜ (view r ≡ scheduling.endLast (now (mem .entry)) (view w)) × Grown 0 w r ⌝ }
+{
+    let wdesc = w.regs[AREG] | (w.regs[WDESC_REG] & PRIORITY_MASK);
+    put(
+        r_index_word(w, mem, w.regs[AREG], 0, IPTR_REG),
+        WDESC_REG,
+        wdesc,
+    )
+}
+
+// Another one is counted off, and stops.
+fn end_one(w: Plan, mem: &[u32], count: u32) -> Plan
+    requires { ⌜ Room 1 w ⌝ }
+    ensures { λ r. ⌜ (view r ≡ scheduling.endOne (now (mem .entry)) count (view w)) × Grown 1 w r ⌝ }
+{
+    let left = at_byte(count, MINUS_ONE);
+    goto_snp(w_index_word(w, mem, w.regs[AREG], 1, left))
+}
+
+fn end_counted(w: Plan, mem: &[u32], count: u32) -> Plan
+    requires { ⌜ Room 1 w ⌝ }
+    ensures { λ r. ⌜ (view r ≡ scheduling.endCounted (now (mem .entry)) count (view w)) × Grown 1 w r ⌝ }
+{
+    if count == 1 {
+        return end_last(w, mem);
+    }
+    end_one(w, mem, count)
+}
+
+// End process.
+pub fn endp(w: Plan, mem: &[u32]) -> Plan
+    requires { ⌜ Room 1 w ⌝ }
+    ensures { λ r. ⌜ (view r ≡ scheduling.endp (now (mem .entry)) (view w)) × Grown 1 w r ⌝ }
+{
+    let a = at_word(w.regs[AREG], 1);
+    let count = word_at(w, mem, a);
+    end_counted(load_word(w, mem, a), mem, count)
+}

@@ -1,0 +1,30 @@
+use mathlib.Core.Path.{_≡_}
+use lib.ListN.{length}
+use native.Mathlib.Omega.{arith}
+use borrow.Author.Needs.{needs}
+use borrow.Author.Needs.{needs}
+use Rattle.program_io.proofs.case.give_reply.Statement.{statement}
+use Rattle.program_io.proofs.case.give_reply.Tie as tie
+
+give-words-requires-2 : tie.Need-give-words-requires-2
+give-words-requires-2 c κs =
+    let h : length (c .before .before .before .before .before .before .before .before .before .before .before .before .before .before .before .before .args .r .machine .regs) ≡ 45 = search needs in
+    omega arith
+
+pub give-reply-spec : {M : Type 1} → statement M
+give-reply-spec =
+    tie.close
+    (tie.spec
+    (λ c κs. search needs)
+    (λ c. search needs)
+    (λ c. search needs)
+    (λ c. search needs)
+    (λ c. search needs)
+    (λ c. search needs)
+    (λ c. search needs)
+    (λ c κs. search needs)
+    (λ c. search needs)
+    (λ c. search needs)
+    give-words-requires-2
+    (λ c. search needs)
+    (λ c. search needs))

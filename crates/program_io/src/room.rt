@@ -1,0 +1,28 @@
+// The buffers of the program, all zeros. Each is made by a function that tells its length alone, so that no caller has
+// to compute with so many zeros.
+use crate::case::JOURNAL;
+use crate::case::WORDS;
+ghost use mathlib.Core.Path.{_≡_};
+ghost use lib.ListN.{length};
+ghost use Rattle.program_io.specs.Sizes.{mostWords, mostJournal, block};
+
+// Bytes of the input, and of the output; the longest case and the longest response have fewer.
+pub const BLOCK: usize = 524288;
+
+pub fn bytes() -> [u8; BLOCK]
+    ensures { λ r. ⌜ block ≡ length r ⌝ }
+{
+    [0; BLOCK]
+}
+
+pub fn memory() -> [u32; WORDS]
+    ensures { λ r. ⌜ mostWords ≡ length r ⌝ }
+{
+    [0; WORDS]
+}
+
+pub fn journal() -> [u32; JOURNAL]
+    ensures { λ r. ⌜ mostJournal ≡ length r ⌝ }
+{
+    [0; JOURNAL]
+}

@@ -1,0 +1,18 @@
+use borrow.Author.Needs.{needs}
+use Rattle.rules.proofs.Tests.{yes-eq, no-eq}
+use Rattle.rules.specs.Scheduling.{enqueue, run}
+use Rattle.scheduling.proofs.running.run.Statement.{statement}
+use Rattle.scheduling.proofs.running.run.Tie as tie
+
+returns : tie.Need-returns
+unfolding run
+returns c = (rw (yes-eq (c .before .before .if1 .taken), ← c .before .level .ensures .0) (c .enqueue .ensures .0), search needs)
+
+returns-2 : tie.Need-returns-2
+unfolding run
+returns-2 c = (rw (no-eq (c .before .if1 .left)) (c .run-over-low .ensures .0), search needs)
+
+pub run-spec : {M : Type 1} → statement M
+run-spec =
+    tie.close (tie.spec (λ c. search needs) (λ c κs. search needs) (λ c. search needs) (λ c. search needs) (λ c. search needs) (λ c. search needs) (λ c κs. search needs)
+    returns (λ c κs. search needs) returns-2)

@@ -1,0 +1,16 @@
+use borrow.Author.Needs.{needs}
+use Rattle.rules.proofs.Tests.{yes-eq, no-eq}
+use Rattle.rules.specs.Scheduling.{interrupt, runOverLow}
+use Rattle.scheduling.proofs.running.run_over_low.Statement.{statement}
+use Rattle.scheduling.proofs.running.run_over_low.Tie as tie
+
+returns : tie.Need-returns
+unfolding runOverLow
+returns c = (rw (yes-eq (c .before .if1 .taken)) (c .interrupt .ensures .0), search needs)
+
+returns-2 : tie.Need-returns-2
+unfolding runOverLow
+returns-2 c = (rw (no-eq (c .before .if1 .left)) (c .run-low .ensures .0), search needs)
+
+pub run-over-low-spec : {M : Type 1} → statement M
+run-over-low-spec = tie.close (tie.spec (λ c κs. search needs) returns (λ c κs. search needs) returns-2)

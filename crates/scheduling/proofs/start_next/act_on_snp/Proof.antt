@@ -1,0 +1,16 @@
+use borrow.Author.Needs.{needs}
+use Rattle.rules.proofs.Tests.{yes-eq, no-eq}
+use Rattle.rules.specs.Scheduling.{actOnSNP}
+use Rattle.scheduling.proofs.start_next.act_on_snp.Statement.{statement}
+use Rattle.scheduling.proofs.start_next.act_on_snp.Tie as tie
+
+returns : tie.Need-returns
+unfolding actOnSNP
+returns c = (rw (yes-eq (c .if1 .taken)), search needs)
+
+returns-2 : tie.Need-returns-2
+unfolding actOnSNP
+returns-2 c = (rw (no-eq (c .before .if1 .left)) (c .start-next-process .ensures .0), search needs)
+
+pub act-on-snp-spec : {M : Type 1} → statement M
+act-on-snp-spec = tie.close (tie.spec (λ c. search needs) returns (λ c κs. search needs) returns-2)

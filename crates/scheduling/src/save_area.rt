@@ -1,0 +1,89 @@
+// The save area (000 1.8), on a plan: what an interrupt puts there and the last high process brings back. Each function is the code of a
+// definition of rules/specs/Scheduling.antt, and says which work its result stands for and how many single stores it adds at most.
+use crate::flags::resumed;
+use memory::store::r_index_word;
+use memory::store::w_index_word;
+use plan::Plan;
+use rules::names::*;
+ghost use mathlib.Core.Path.{_≡_};
+ghost use Prim.Native.Nat.{_<_};
+ghost use Rattle.plan.specs.View.{view, Room, Grown};
+ghost use Rattle.rules.specs.Scheduling as scheduling;
+ghost use Rattle.rules.specs.Registers as registers;
+
+// Register k goes to a place of the save area.
+fn save(w: Plan, mem: &[u32], place: u32, k: usize) -> Plan
+    requires { ⌜ (k < registers.registers) × Room 1 w ⌝ }
+    ensures { λ r. ⌜ (view r ≡ scheduling.save (now (mem .entry)) place k (view w)) × Grown 1 w r ⌝ }
+{
+    w_index_word(w, mem, SAVE_BASE, place, w.regs[k])
+}
+
+// Where there is a low process, its registers too.
+fn save_rest(w: Plan, mem: &[u32]) -> Plan
+    requires { ⌜ Room 5 w ⌝ }
+    ensures { λ r. ⌜ (view r ≡ scheduling.saveRest (now (mem .entry)) (view w)) × Grown 5 w r ⌝ }
+{
+    if w.regs[WDESC_REG] == NO_LOW_PROCESS {
+        return w;
+    }
+    let p = save(w, mem, IPTR_INT_SAVE, IPTR_REG);
+    let q = save(p, mem, AREG_INT_SAVE, AREG);
+    let s = save(q, mem, BREG_INT_SAVE, BREG);
+    let t = save(s, mem, CREG_INT_SAVE, CREG);
+    save(t, mem, STATUS_INT_SAVE, STATUS_REG)
+}
+
+// 0 stands for E, which is no register here.
+fn save_ereg(w: Plan, mem: &[u32], status: u32) -> Plan
+    requires { ⌜ Room 1 w ⌝ }
+    ensures { λ r. ⌜ (view r ≡ scheduling.saveEreg (now (mem .entry)) status (view w)) × Grown 1 w r ⌝ }
+{
+    if status & MOVE_BIT == 0 {
+        return w;
+    }
+    w_index_word(w, mem, SAVE_BASE, EREG_INT_SAVE, 0)
+}
+
+// PROC SaveRegisters; the status tells whether E is saved.
+pub fn save_registers(w: Plan, mem: &[u32], status: u32) -> Plan
+    requires { ⌜ Room 7 w ⌝ }
+    ensures { λ r. ⌜ (view r ≡ scheduling.saveRegisters (now (mem .entry)) status (view w)) × Grown 7 w r ⌝ }
+{
+    save_ereg(
+        save_rest(save(w, mem, WDESC_INT_SAVE, WDESC_REG), mem),
+        mem,
+        status,
+    )
+}
+
+// Register k comes back from a place of the save area.
+fn restore(w: Plan, mem: &[u32], place: u32, k: usize) -> Plan
+    requires { ⌜ (k < registers.registers) × Room 0 w ⌝ }
+    ensures { λ r. ⌜ (view r ≡ scheduling.restore (now (mem .entry)) place k (view w)) × Grown 0 w r ⌝ }
+{
+    r_index_word(w, mem, SAVE_BASE, place, k)
+}
+
+// Where a low process was saved, its registers too.
+fn restore_rest(w: Plan, mem: &[u32]) -> Plan
+    requires { ⌜ Room 0 w ⌝ }
+    ensures { λ r. ⌜ (view r ≡ scheduling.restoreRest (now (mem .entry)) (view w)) × Grown 0 w r ⌝ }
+{
+    if w.regs[WDESC_REG] == NO_LOW_PROCESS {
+        return w;
+    }
+    let p = restore(w, mem, IPTR_INT_SAVE, IPTR_REG);
+    let q = restore(p, mem, AREG_INT_SAVE, AREG);
+    let s = restore(q, mem, BREG_INT_SAVE, BREG);
+    let t = restore(s, mem, CREG_INT_SAVE, CREG);
+    restore(t, mem, STATUS_INT_SAVE, STATUS_REG)
+}
+
+// PROC RestoreRegisters.
+pub fn restore_registers(w: Plan, mem: &[u32]) -> Plan
+    requires { ⌜ Room 0 w ⌝ }
+    ensures { λ r. ⌜ (view r ≡ scheduling.restoreRegisters (now (mem .entry)) (view w)) × Grown 0 w r ⌝ }
+{
+    resumed(restore_rest(restore(w, mem, WDESC_INT_SAVE, WDESC_REG), mem))
+}

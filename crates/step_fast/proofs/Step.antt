@@ -1,0 +1,283 @@
+-- A common step is the step of rules.
+use mathlib.Core.Path.{_≡_, refl}
+use mathlib.Core.Bool.{Bool, true, false, not}
+use mathlib.Core.List.{List, [], _∷_}
+use Prim.Native.Nat.{ℕ, zero, suc, _+_, _/_, _^_, _≤_}
+use native.Mathlib.Omega.{arith}
+use lib.Bits.{bitAnd}
+use lib.Dec.{eqb}
+use lib.ListN.{length, getD, drop}
+use borrow.Author.Tests.{eqb-true}
+use Rattle.rules.specs.Tests.{pick, ifEq, look}
+use Rattle.rules.specs.Words.{atWord, index, selector, byteOf}
+use Rattle.rules.specs.Core.{core, wptrOf, priorityOf, gotoSNPBit, errorFlag}
+use Rattle.rules.specs.Stack as stack
+use Rattle.rules.specs.Registers.{statusReg, flagsReg, oreg, channelReg, linkChans, haltedFlag, idleFlag, runRequest, readyRequest, coreOf, withCore}
+use Rattle.rules.specs.Memory.{word, stores}
+use Rattle.rules.specs.Work.{Work, begin, reg, put, putCore, wordAt, byteAt, access, append, storeWord, rIndexWord, wIndexWord}
+use Rattle.rules.specs.Scheduling as scheduling
+use Rattle.rules.specs.Data as loads
+use Rattle.rules.specs.Timers.{timerDue, timerReady}
+use Rattle.rules.specs.Channels.{requestFrom, requested}
+use Rattle.rules.specs.Operations as tables
+use Rattle.rules.specs.Step as steps
+use Rattle.rules.proofs.Tests.{yes-lt, no-lt, yes-le, no-le, yes-eq, no-eq, no, by-bool, cases-lt, cases-eq}
+use Rattle.rules.specs.declared.Core.{Core}
+use Rattle.step_pending.specs.Quiet as quiet
+use Rattle.step_fast.specs.declared.Swift.{Swift}
+use Rattle.step_fast.specs.Swift as swift
+
+-- ---- the registers as the seven and the rest
+
+abbrev pub listed : Core → List ℕ → List ℕ
+listed s rest = s .iptr ∷ s .wdesc ∷ s .a ∷ s .b ∷ s .c ∷ s .oreg ∷ s .status ∷ rest
+
+seven : (r : List ℕ) → 7 ≤ length r → r ≡ listed (coreOf r) (drop 7 r)
+unfolding coreOf
+seven [] h = absurd (omega arith)
+seven (a ∷ []) h = absurd (omega arith)
+seven (a ∷ b ∷ []) h = absurd (omega arith)
+seven (a ∷ b ∷ c ∷ []) h = absurd (omega arith)
+seven (a ∷ b ∷ c ∷ d ∷ []) h = absurd (omega arith)
+seven (a ∷ b ∷ c ∷ d ∷ e ∷ []) h = absurd (omega arith)
+seven (a ∷ b ∷ c ∷ d ∷ e ∷ f ∷ []) h = absurd (omega arith)
+seven (a ∷ b ∷ c ∷ d ∷ e ∷ f ∷ g ∷ r) h = refl
+
+with-listed : (t s : Core) (rest : List ℕ) → withCore t (listed s rest) ≡ listed t rest
+unfolding withCore
+with-listed t s rest = refl
+
+core-listed : (s : Core) (rest : List ℕ) → coreOf (listed s rest) ≡ s
+unfolding coreOf
+core-listed s rest = refl
+
+-- the work that is left by a common step, over the seven registers and the rest
+abbrev pub left : List ℕ → Swift → Work
+left rest t =
+    record {
+      regs = listed (t .core) rest;
+      stored = pick (t .stores) (word (t .index) (t .value) ∷ []) [];
+      answer = 0;
+      kind = 0;
+      address = 0;
+    }
+
+-- ---- the end of a step where Status is as before it, with GotoSNP clear
+
+halt-same : (st : ℕ) (w : Work) → reg statusReg w ≡ st → steps.haltOnError st w ≡ w
+unfolding steps.haltOnError
+halt-same st w e =
+    cases-eq (bitAnd st errorFlag) 0
+    (λ h. rw (yes-eq h, e, yes-eq h))
+    (λ h. rw (no-eq h))
+
+finish : (m : List ℕ) (st : ℕ) (w : Work) → reg statusReg w ≡ st → bitAnd st gotoSNPBit ≡ 0 → steps.haltOnError st (scheduling.actOnSNP m w) ≡ w
+unfolding scheduling.actOnSNP
+finish m st w e clear =
+    let h : bitAnd (reg statusReg w) gotoSNPBit ≡ 0 = rw e clear in
+    rw (yes-eq h) (halt-same st w e)
+
+never : {P : Type 0} → _≡_ {A = Bool} false true → P
+never e = absurd (let z : _≡_ {A = ℕ} 0 1 = cc in omega arith)
+
+-- ---- a property of each row of a table is one of what is looked up in it
+
+abbrev All : (ℕ → (Core → Swift) → Type 0) → List (ℕ × (Core → Swift)) → Type 0
+All P [] = Unit {0}
+All P (e ∷ t) = P (e .0) (e .1) × All P t
+
+looked : (P : ℕ → (Core → Swift) → Type 0) (t : List (ℕ × (Core → Swift))) → All P t → (k : ℕ) → P k swift.other → P k (look t k swift.other)
+looked P [] all k o = o
+looked P (e ∷ t) all k o =
+    by-bool (eqb k (e .0)) (λ h. rw (h, eqb-true k (e .0) h) (all .0)) (λ h. rw h (looked P t (all .1) k o))
+
+module _ (m rest : List ℕ) where
+  -- an executed function, to its end
+  abbrev pub Good : ℕ → Core → Swift → Type 0
+  Good code s t =
+      t .done ≡ true → bitAnd (s .status) gotoSNPBit ≡ 0
+      → steps.haltOnError (s .status) (steps.execute m code (begin (listed s rest))) ≡ left rest t
+
+  -- what is on the evaluation stack alone
+  quick-left : (f : Core → Core) (s : Core) → swift.quick f s .done ≡ true → bitAnd (s .status) gotoSNPBit ≡ 0
+      → steps.haltOnError (s .status) (scheduling.actOnSNP m (put oreg 0 (putCore (f (coreOf (listed s rest))) (begin (listed s rest)))))
+      ≡ left rest (swift.quick f s)
+  unfolding swift.kept put putCore coreOf withCore
+  quick-left f s d clear =
+      cases-eq (f s .status) (s .status)
+      (λ e. rw (yes-eq e) (finish m (s .status) _ e clear))
+      (λ n. never (rw (no-eq n) at d))
+
+  -- load local, load non-local
+  ldl-good : (s : Core) → Good 0x7 s (swift.ldl m s)
+  unfolding swift.ldl steps.execute tables.function tables.functions loads.ldl loads.pushed put rIndexWord wordAt access stores
+  ldl-good s d clear =
+      cases-lt (index (atWord (wptrOf (s .wdesc)) (s .oreg))) (length m)
+      (λ h. rw (yes-lt h, yes-lt h) (finish m (s .status) _ refl clear))
+      (λ h. never (rw (no-lt h) at d))
+
+  ldnl-good : (s : Core) → Good 0x3 s (swift.ldnl m s)
+  unfolding swift.ldnl steps.execute tables.function tables.functions loads.ldnl put rIndexWord wordAt access stores
+  ldnl-good s d clear =
+      cases-lt (index (atWord (s .a) (s .oreg))) (length m)
+      (λ h. rw (yes-lt h, yes-lt h) (finish m (s .status) _ refl clear))
+      (λ h. never (rw (no-lt h) at d))
+
+  -- store local, store non-local
+  stl-good : (s : Core) → Good 0xD s (swift.stl m s)
+  unfolding swift.stl steps.execute tables.function tables.functions loads.stl loads.popped put wIndexWord storeWord access append ifEq
+  stl-good s d clear =
+      cases-lt (index (atWord (wptrOf (s .wdesc)) (s .oreg))) (length m)
+      (λ h. rw (yes-lt h, yes-lt h) (finish m (s .status) _ refl clear))
+      (λ h. never (rw (no-lt h) at d))
+
+  stnl-good : (s : Core) → Good 0xE s (swift.stnl m s)
+  unfolding swift.stnl steps.execute tables.function tables.functions loads.stnl put wIndexWord storeWord access append ifEq
+  stnl-good s d clear =
+      cases-lt (index (atWord (s .a) (s .oreg))) (length m)
+      (λ h. rw (yes-lt h, yes-lt h) (finish m (s .status) _ refl clear))
+      (λ h. never (rw (no-lt h) at d))
+
+  -- jump
+  j-good : (s₀ s : Core) → Good 0x0 s (swift.j (listed s₀ rest) s)
+  unfolding swift.j quiet.slices steps.execute tables.function tables.functions scheduling.j scheduling.timeSlice scheduling.sliceIfRunning scheduling.sliceIfLong put
+  j-good s₀ s d clear =
+      cases-eq (priorityOf (s .wdesc)) 0
+      (λ h. rw (yes-eq h, yes-eq h) (finish m (s .status) _ refl clear))
+      (λ p. cases-eq (bitAnd (getD rest 10 0) stack.clocksRun) 0
+      (λ h. rw (no-eq p, no-eq p, yes-eq h, yes-eq h) (finish m (s .status) _ refl clear))
+      (λ k. cases-lt (getD rest 9 0) scheduling.sliceLength
+      (λ h. rw (no-eq p, no-eq p, no-eq k, no-eq k, no-le h, no-le h) (finish m (s .status) _ refl clear))
+      (λ h. never (rw (no-eq p, no-eq k, yes-le h) at d))))
+
+  -- ---- operations: each row of the table is the row of rules
+
+  abbrev Row : ℕ → (Core → Swift) → Type 0
+  Row k f = (s : Core) → f s .done ≡ true → bitAnd (s .status) gotoSNPBit ≡ 0
+      → steps.haltOnError (s .status) (scheduling.actOnSNP m (put oreg 0 (tables.operate k m (begin (listed s rest))))) ≡ left rest (f s)
+
+  rows : All Row swift.operations
+  unfolding swift.operations tables.operate tables.operations
+  rows =
+      (quick-left stack.rev, (quick-left stack.bsub, (quick-left stack.diff, (quick-left stack.add, (quick-left stack.gcall, (quick-left stack.prod, (quick-left stack.gt, (quick-left stack.wsub, (quick-left stack.sub, (quick-left stack.csub0, (quick-left stack.ldpi, (quick-left stack.ldpri, (quick-left stack.rem, (quick-left stack.div, (quick-left stack.bitnot, (quick-left stack.xor, (quick-left stack.bcnt, (quick-left stack.gajw, (quick-left stack.wcnt, (quick-left stack.mint, (quick-left stack.and, (quick-left stack.or, (quick-left stack.ccnt1, (quick-left stack.sum, (quick-left stack.mul, tt)))))))))))))))))))))))))
+
+  opr-good : (s : Core) → Good 0xF s (swift.opr s)
+  unfolding swift.operate steps.execute tables.function tables.functions
+  opr-good s d clear = looked Row swift.operations rows (s .oreg) (λ s d clear. never d) s d clear
+
+  -- ---- decoding
+
+  abbrev Decoded : ℕ → (Core → Swift) → Type 0
+  Decoded k f = (s : Core) → f s .done ≡ true → bitAnd (s .status) gotoSNPBit ≡ 0
+      → steps.haltOnError (s .status) (steps.decode m k (begin (listed s rest))) ≡ left rest (f s)
+
+  prefix-left : (f : Core → Core) (s : Core) → (f s .status ≡ s .status) → steps.haltOnError (s .status) (putCore (f (coreOf (listed s rest))) (begin (listed s rest))) ≡ left rest (swift.prefix (f s))
+  unfolding putCore coreOf withCore
+  prefix-left f s e = halt-same (s .status) _ e
+
+  decode-rows : (s₀ : Core) → All Decoded (swift.functions m (listed s₀ rest))
+  unfolding swift.functions steps.decode ifEq steps.execute tables.function tables.functions
+  decode-rows s₀ =
+      (j-good s₀, (quick-left stack.ldlp, ((λ s d clear. prefix-left stack.pfix s refl), (ldnl-good, (quick-left stack.ldc, (quick-left stack.ldnlp, ((λ s d clear. prefix-left stack.nfix s refl), (ldl-good, (quick-left stack.adc, (quick-left stack.cj, (quick-left stack.ajw, (quick-left stack.eqc, (stl-good, (stnl-good, (opr-good, tt)))))))))))))))
+
+  decode-good : (s₀ : Core) (k : ℕ) → Decoded k (swift.decode m (listed s₀ rest) k)
+  unfolding swift.decode
+  decode-good s₀ k = looked Decoded (swift.functions m (listed s₀ rest)) (decode-rows s₀) k (λ s d clear. never d)
+
+  -- ---- the fetch
+
+  fetch-good : (s : Core) → swift.fetch m (listed s rest) s .done ≡ true → bitAnd (s .status) gotoSNPBit ≡ 0
+      → steps.haltOnError (s .status) (steps.instruction m (begin (listed s rest))) ≡ left rest (swift.fetch m (listed s rest) s)
+  unfolding swift.fetch swift.decoded steps.instruction steps.fetched put byteAt wordAt access stores
+  fetch-good s d clear =
+      cases-lt (index (s .iptr)) (length m)
+      (λ h. rw (yes-lt h, yes-lt h) (decode-good s (byteOf (selector (s .iptr)) (getD m (index (s .iptr)) 0) / 2 ^ 4) (swift.fetched (byteOf (selector (s .iptr)) (getD m (index (s .iptr)) 0)) s) (rw (yes-lt h) at d) clear))
+      (λ h. never (rw (no-lt h) at d))
+
+-- ---- what may come before an instruction
+
+calm-none : (r : List ℕ) (n c : ℕ) → quiet.calm c n r ≡ true → requestFrom c n (begin r) ≡ linkChans
+unfolding quiet.calm requestFrom
+calm-none r zero c h = refl
+calm-none r (suc n) c h =
+    cases-eq (bitAnd (getD r (channelReg c) 0) (runRequest + readyRequest)) 0
+    (λ e. rw (yes-eq e) (calm-none r n (suc c) (rw (yes-eq e) at h)))
+    (λ e. never (rw (no-eq e) at h))
+
+not-not : (b : Bool) → not b ≡ true → b ≡ false
+not-not true h = never h
+not-not false h = refl
+
+module _ (m r : List ℕ) where
+  first-ready : quiet.due 0 r ≡ false → timerReady 0 (begin r) ≡ false
+  unfolding quiet.due timerReady timerDue
+  first-ready h = rw (yes-eq {a = 0} {b = 0} refl) h
+
+  second-ready : quiet.due 1 r ≡ false → timerReady 1 (begin r) ≡ false
+  unfolding quiet.due timerReady timerDue
+  second-ready h =
+      let one : _≡_ {A = ℕ} 1 0 → ⊥ = omega arith in
+      rw (no-eq one)
+      (cases-eq (priorityOf (getD r 1 0)) 0 (λ e. rw (yes-eq e)) (λ e. rw (no-eq e) h))
+
+  -- between instructions, with no request and no timer
+  asked-nothing : quiet.calm 0 linkChans r ≡ true → quiet.due 0 r ≡ false → quiet.due 1 r ≡ false
+      → steps.channelsFirst m (begin r) ≡ steps.instructionUnlessIdle m (begin r)
+  unfolding steps.channelsFirst steps.timersFirst requested
+  asked-nothing c a b =
+      let nine : linkChans ≤ requestFrom 0 linkChans (begin r) = omega (arith, calm-none r linkChans 0 c) in
+      rw (no-lt nine, first-ready a, second-ready b)
+
+  unasked-steps : quiet.unasked r ≡ true → steps.channelsFirst m (begin r) ≡ steps.instructionUnlessIdle m (begin r)
+  unfolding quiet.unasked
+  unasked-steps h =
+      by-bool (quiet.calm 0 linkChans r)
+      (λ c. by-bool (quiet.due 0 r)
+      (λ a. never (rw (c, a) at h))
+      (λ a. asked-nothing c a (not-not (quiet.due 1 r) (rw (c, a) at h))))
+      (λ c. never (rw c at h))
+
+  -- a quiet machine fetches
+  pub record Quiet : Type 0 where
+    pub awake : bitAnd (getD r flagsReg 0) haltedFlag ≡ 0
+    pub busy : bitAnd (getD r flagsReg 0) idleFlag ≡ 0
+    pub clear : bitAnd (getD r statusReg 0) gotoSNPBit ≡ 0
+    pub first : steps.choose m (begin r) ≡ steps.instructionUnlessIdle m (begin r)
+
+  quiet-first : ifEq (getD r oreg 0) 0 (quiet.unasked r) true ≡ true → steps.choose m (begin r) ≡ steps.instructionUnlessIdle m (begin r)
+  unfolding steps.choose
+  quiet-first h =
+      cases-eq (getD r oreg 0) 0
+      (λ e. rw (yes-eq e) (unasked-steps (rw (yes-eq e) at h)))
+      (λ e. rw (no-eq e))
+
+  quiet-told : quiet.quiet r ≡ true → Quiet
+  unfolding quiet.quiet
+  quiet-told h =
+      cases-eq (bitAnd (getD r flagsReg 0) haltedFlag) 0
+      (λ a. cases-eq (bitAnd (getD r flagsReg 0) idleFlag) 0
+      (λ b. cases-eq (bitAnd (getD r statusReg 0) gotoSNPBit) 0
+      (λ c. record { awake = a; busy = b; clear = c; first = quiet-first (rw (yes-eq a, yes-eq b, yes-eq c) at h) })
+      (λ c. never (rw (yes-eq a, yes-eq b, no-eq c) at h)))
+      (λ b. never (rw (yes-eq a, no-eq b) at h)))
+      (λ a. never (rw (no-eq a) at h))
+
+  quiet-step : Quiet → steps.step m (begin r) ≡ steps.haltOnError (getD r statusReg 0) (steps.instruction m (begin r))
+  unfolding steps.step steps.instructionUnlessIdle
+  quiet-step q = rw (yes-eq (q .awake), q .first, yes-eq (q .busy))
+
+-- THE LAW: a common step is the step of rules
+listed-step : (m : List ℕ) (s : Core) (rest : List ℕ) → swift.swift m (listed s rest) .done ≡ true
+    → steps.step m (begin (listed s rest)) ≡ swift.swiftWork (listed s rest) (swift.swift m (listed s rest))
+unfolding swift.swift coreOf withCore
+listed-step m s rest d =
+    by-bool (quiet.quiet (listed s rest))
+    (λ h.
+    let q = quiet-told m (listed s rest) h in
+    rw (h, quiet-step m (listed s rest) q) (fetch-good m rest s (rw h at d) (q .clear)))
+    (λ h. never (rw h at d))
+
+pub swift-step : (m r : List ℕ) → 7 ≤ length r → swift.swift m r .done ≡ true
+    → steps.step m (begin r) ≡ swift.swiftWork r (swift.swift m r)
+swift-step m r l d =
+    rw (seven r l) (listed-step m (coreOf r) (drop 7 r) (rw (seven r l) at d))

@@ -1,0 +1,68 @@
+// The common steps, done on the seven registers of Core and at most one store: what nearly every step of a program is.
+// A step that is not among them, or that anything comes before or after, is left to the engine.
+pub mod functions; // The functions of common steps, on the seven registers after the fetch.
+
+use rules::Core;
+use rules::REGISTERS;
+ghost use mathlib.Core.Path.{_≡_};
+ghost use Prim.Native.Nat.{_<_};
+ghost use Rattle.rules.specs.Registers as registers;
+ghost use Rattle.step_fast.specs.Swift as swift;
+
+// What a common step comes to: whether it is one, the registers after it, and its store if it has one.
+pub struct Swift {
+    pub done: bool,
+    pub core: Core,
+    pub stores: bool,
+    pub index: u32,
+    pub value: u32,
+}
+
+// The seven registers.
+fn core_of(regs: [u32; REGISTERS]) -> Core
+    ensures { λ r. ⌜ r ≡ registers.coreOf regs ⌝ }
+{
+    Core {
+        iptr: regs[0],
+        wdesc: regs[1],
+        a: regs[2],
+        b: regs[3],
+        c: regs[4],
+        oreg: regs[5],
+        status: regs[6],
+    }
+}
+
+// The registers once a byte is fetched.
+fn fetched(byte: u32, s: Core) -> Core
+    ensures { λ r. ⌜ r ≡ swift.fetched byte s ⌝ }
+{
+    let mut t = s;
+    t.iptr = words::at_byte(s.iptr, 1);
+    t.oreg = words::with_nibble(byte, s.oreg);
+    t
+}
+
+fn decoded(mem: &[u32], regs: [u32; REGISTERS], byte: u32, s: Core) -> Swift
+    ensures { λ r. ⌜ r ≡ swift.decoded (now (mem .entry)) regs byte s ⌝ }
+{
+    functions::decode(mem, regs, byte >> 4, fetched(byte, s))
+}
+
+fn fetch(mem: &[u32], regs: [u32; REGISTERS], s: Core) -> Swift
+    ensures { λ r. ⌜ r ≡ swift.fetch (now (mem .entry)) regs s ⌝ }
+{
+    let at = words::index_of(s.iptr) as usize;
+    if at < mem.len() {
+        let byte = words::byte_of(words::selector(s.iptr), mem[at]);
+        return decoded(mem, regs, byte, s);
+    }
+    functions::cold()
+}
+
+// The next instruction as a common step, or that it is none. It is the step of a machine that is quiet (crate quiet).
+pub fn common_step(mem: &[u32], regs: [u32; REGISTERS]) -> Swift
+    ensures { λ r. ⌜ r ≡ swift.fetch (now (mem .entry)) regs (registers.coreOf regs) ⌝ }
+{
+    fetch(mem, regs, core_of(regs))
+}

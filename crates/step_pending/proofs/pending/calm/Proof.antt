@@ -1,0 +1,70 @@
+use borrow.Author.Needs.{needs}
+use native.Mathlib.Omega.{arith}
+use mathlib.Core.Path.{_≡_, refl, sym, _∙_}
+use Prim.Native.Nat.{_+_, _-_, _≤_}
+use Rattle.step_pending.specs.Quiet as quiet
+use Rattle.step_pending.proofs.Requests.{calm-on, calm-off}
+use Rattle.step_pending.proofs.pending.calm.Statement.{statement}
+use Rattle.step_pending.proofs.pending.calm.Tie as tie
+
+abbrev Inv-loop : tie.InvT-loop
+Inv-loop regs c₀ c = (c ≤ 9) × (quiet.calm 0 9 regs ≡ quiet.calm c (9 - c) regs)
+
+abbrev μ-loop : tie.MeasureT-loop
+μ-loop regs c₀ c = 9 - c
+
+loop-holds : tie.Need-loop-holds Inv-loop μ-loop
+loop-holds c = (search needs, refl)
+
+mul-if1 : tie.Need-mul-if1 Inv-loop μ-loop
+mul-if1 c = search needs
+
+add-if1 : tie.Need-add-if1 Inv-loop μ-loop
+add-if1 c = search needs
+
+mul-if1-2 : tie.Need-mul-if1-2 Inv-loop μ-loop
+mul-if1-2 c = search needs
+
+array-read-if1 : tie.Need-array-read-if1 Inv-loop μ-loop
+array-read-if1 c = search needs
+
+add-c : tie.Need-add-c Inv-loop μ-loop
+add-c c = search needs
+
+loop-less : tie.Need-loop-less Inv-loop μ-loop
+loop-less c = search needs
+
+loop-again : tie.Need-loop-again Inv-loop μ-loop
+loop-again c =
+    let L = c .before .before in
+    let e : 9 - (L .loop .c + 1) ≡ 9 - L .loop .c - 1 = omega arith in
+    (omega arith, rw e (L .loop .inv .1 ∙ calm-on (L .before .args .t1) (9 - L .loop .c) (L .loop .c) (omega arith) (c .if1 .taken)))
+
+returns : tie.Need-returns Inv-loop μ-loop
+returns c =
+    let L = c .before .before in
+    sym (L .loop .inv .1 ∙ calm-off (L .before .args .t1) (9 - L .loop .c) (L .loop .c) (omega arith) (c .if1 .left))
+
+returns-2 : tie.Need-returns-2 Inv-loop μ-loop
+unfolding quiet.calm
+returns-2 c =
+    let L = c .before in
+    let e : 9 - L .loop .c ≡ 0 = omega arith in
+    sym (rw e at (L .loop .inv .1))
+
+pub calm-spec : {M : Type 1} → statement M
+calm-spec =
+    tie.close
+    (tie.spec
+    Inv-loop
+    μ-loop
+    loop-holds
+    mul-if1
+    add-if1
+    mul-if1-2
+    array-read-if1
+    add-c
+    loop-less
+    loop-again
+    returns
+    returns-2)

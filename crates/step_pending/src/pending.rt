@@ -1,0 +1,85 @@
+// Whether anything comes before an instruction, and whether a slice ends at a jump.
+use rules::Core;
+use rules::REGISTERS;
+use rules::names::*;
+ghost use mathlib.Core.Path.{_≡_};
+ghost use Prim.Native.Nat.{_<_};
+ghost use Rattle.rules.specs.Registers.{tEnabled};
+ghost use Rattle.step_pending.specs.Quiet as quiet;
+
+// A run request or a ready request.
+const REQUESTS: u32 = 24;
+
+// No channel has a request.
+fn calm(regs: [u32; REGISTERS]) -> bool
+    ensures { λ r. ⌜ r ≡ quiet.calm 0 9 regs ⌝ }
+{
+    let mut c = 0;
+    while c < 9 {
+        if regs[CHANNEL_REG + 3 * c] & REQUESTS == 0 {
+            c += 1;
+        } else {
+            return false;
+        }
+    }
+    true
+}
+
+// A timer is enabled and its time has come.
+fn due(regs: [u32; REGISTERS], queue: usize, mask: u32) -> bool
+    requires { ⌜ (queue < 2) × (mask ≡ tEnabled queue) ⌝ }
+    ensures { λ r. ⌜ r ≡ quiet.due queue regs ⌝ }
+{
+    if regs[FLAGS_REG] & mask == 0 {
+        return false;
+    }
+    !words::later(regs[TNEXT_REG + queue], regs[CLOCK_REG + queue])
+}
+
+// Between instructions: no request, no timer.
+fn unasked(regs: [u32; REGISTERS]) -> bool
+    ensures { λ r. ⌜ r ≡ quiet.unasked regs ⌝ }
+{
+    if calm(regs) {
+        if due(regs, 0, 2) {
+            return false;
+        }
+        return !due(regs, 1, 4);
+    }
+    false
+}
+
+// Not halted, not idle, no process to be started; and between instructions unasked.
+pub fn quiet(regs: [u32; REGISTERS]) -> bool
+    ensures { λ r. ⌜ r ≡ quiet.quiet regs ⌝ }
+{
+    if regs[FLAGS_REG] & HALTED_FLAG == 0 {
+        if regs[FLAGS_REG] & IDLE_FLAG == 0 {
+            if regs[STATUS_REG] & GOTO_SNP_BIT == 0 {
+                if regs[OREG] == 0 {
+                    return unasked(regs);
+                }
+                return true;
+            }
+            return false;
+        }
+        return false;
+    }
+    false
+}
+
+// A slice ends at a jump: the process is low, the clocks run, and the slice is long.
+pub fn slices(regs: [u32; REGISTERS], s: Core) -> bool
+    ensures { λ r. ⌜ r ≡ quiet.slices s regs ⌝ }
+{
+    if s.wdesc & 1 == 0 {
+        return false;
+    }
+    if regs[FLAGS_REG] & CLOCKS_RUN == 0 {
+        return false;
+    }
+    if SLICE_LENGTH <= regs[SLICE_REG] {
+        return true;
+    }
+    false
+}

@@ -1,3 +1,0 @@
-pub mod Within
-pub mod Sorting
-pub mod Merge

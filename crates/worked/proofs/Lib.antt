@@ -1,4 +1,0 @@
-pub mod Scheduling
-pub mod Timers
-pub mod Channels
-pub mod Accesses
