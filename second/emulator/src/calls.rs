@@ -1,12 +1,13 @@
 //! The eight calls. Each call's checks run in the order of document 01's table of answers.
 
+use crate::answers::Refusal;
 use crate::journal;
 use crate::links;
+use crate::machine::Machine;
 use crate::memory::{Kept, Work};
 use crate::mistakes::{Care, Mistake, Right};
 use crate::registers::*;
 use crate::words::with_byte;
-use crate::{Machine, Refusal};
 
 pub const MIN_MEMORY: usize = 64;
 pub const MAX_MEMORY: usize = 16_384;

@@ -14,7 +14,7 @@ pub struct Scene {
 }
 
 impl Scene {
-    /// All but the timer queues.
+    /// Builds a scene without timer queues.
     pub fn new(random: &mut Random, size: usize) -> Scene {
         let mut scene = Scene {
             size,
