@@ -1,8 +1,8 @@
 //! Random cases that are likely to be accepted and whose parts are likely to touch each other.
 
-mod instructions;
 mod journals;
 mod scene;
+mod steps;
 mod timers;
 
 use emulator::{Machine, MAX_MEMORY, MIN_MEMORY};
@@ -47,7 +47,7 @@ impl Generator {
         let mut scene = Scene::new(random, size);
         timers::queues(random, &mut scene);
         if call == Call::Step {
-            instructions::prepare_step(random, &mut scene);
+            steps::prepare(random, &mut scene);
         }
         scene.damage(random);
         let mut case = Case {
