@@ -1,6 +1,6 @@
 //! Writes T414 code.
 
-use comparer::names::{code_of, FUNCTIONS};
+use comparer::instructions::{put_function, put_operation};
 
 #[derive(Default)]
 pub struct Code {
@@ -22,13 +22,12 @@ impl Code {
     }
 
     pub fn function(&mut self, name: &str, operand: i32) -> &mut Code {
-        let number = FUNCTIONS.iter().position(|function| *function == name);
-        self.prefixed(number.expect("a direct function") as u8, operand);
+        put_function(&mut self.bytes, name, operand);
         self
     }
 
     pub fn operation(&mut self, name: &str) -> &mut Code {
-        self.prefixed(15, code_of(name) as i32);
+        put_operation(&mut self.bytes, name);
         self
     }
 
@@ -42,15 +41,5 @@ impl Code {
     pub fn append(&mut self, other: Code) -> &mut Code {
         self.bytes.extend(other.bytes);
         self
-    }
-
-    /// Prefixes and the last byte, by the Compiler Writer's rule.
-    fn prefixed(&mut self, function: u8, operand: i32) {
-        if operand < 0 {
-            self.prefixed(6, !operand >> 4);
-        } else if operand > 15 {
-            self.prefixed(2, operand >> 4);
-        }
-        self.bytes.push((function << 4) | (operand & 15) as u8);
     }
 }

@@ -3,7 +3,7 @@
 //! Several processes run the same pieces: each is started at the beginning of an earlier piece, in a
 //! workspace of its own. Soft channels stand in the last words of memory.
 
-use crate::names::{code_of, FUNCTIONS};
+use crate::instructions::{put_function, put_operation};
 use crate::random::Random;
 
 /// Where code begins, in words.
@@ -62,23 +62,12 @@ impl Code<'_> {
         }
     }
 
-    /// Prefixes and the last byte, by the Compiler Writer's rule.
     fn function(&mut self, name: &str, operand: i32) {
-        let number = FUNCTIONS.iter().position(|function| *function == name);
-        self.prefixed(number.expect("a direct function") as u8, operand);
-    }
-
-    fn prefixed(&mut self, function: u8, operand: i32) {
-        if operand < 0 {
-            self.prefixed(6, !operand >> 4);
-        } else if operand > 15 {
-            self.prefixed(2, operand >> 4);
-        }
-        self.bytes.push((function << 4) | (operand & 15) as u8);
+        put_function(&mut self.bytes, name, operand);
     }
 
     fn operation(&mut self, name: &str) {
-        self.prefixed(15, code_of(name) as i32);
+        put_operation(&mut self.bytes, name);
     }
 
     /// A function whose operand leads from `ahead` bytes behind here back to an earlier piece. Such

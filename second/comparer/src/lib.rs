@@ -7,6 +7,7 @@ pub mod compare;
 pub mod explain;
 pub mod generate;
 pub mod history;
+pub mod instructions;
 pub mod names;
 pub mod process;
 pub mod program;

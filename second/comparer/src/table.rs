@@ -3,7 +3,7 @@
 use emulator::registers::*;
 
 use crate::case::{Call, Case};
-use crate::names::{self, FUNCTIONS, OPERATIONS};
+use crate::instructions::{function_code, operation_place, FUNCTIONS, OPERATIONS};
 
 /// What a case asks an emulator to do.
 #[derive(Clone, Copy, Debug, PartialEq, Eq)]
@@ -38,10 +38,11 @@ pub fn asked(case: &Case) -> Asked {
         return Asked::NoByte;
     };
     let byte = (word >> (8 * (regs[IPTR] % 4))) % 256;
-    let operand = regs[OREG] | (byte % 16);
-    match byte / 16 {
-        15 => Asked::Operation(operand),
-        function => Asked::Function(function, operand),
+    let (function, operand) = (byte / 16, regs[OREG] | (byte % 16));
+    if function == function_code("opr") {
+        Asked::Operation(operand)
+    } else {
+        Asked::Function(function, operand)
     }
 }
 
@@ -73,10 +74,10 @@ pub fn describe(asked: Asked) -> String {
         Asked::ReadyRequest(channel) => format!("step: ready request of channel {channel}"),
         Asked::Timer(queue) => format!("step: timer {queue}"),
         Asked::Function(function, operand) => {
-            format!("step: {} #{operand:X}", FUNCTIONS[function as usize])
+            format!("step: {} #{operand:X}", FUNCTIONS[function as usize].name)
         }
-        Asked::Operation(code) => match names::operation(code) {
-            Some(name) => format!("step: {name}"),
+        Asked::Operation(code) => match operation_place(code) {
+            Some(place) => format!("step: {}", OPERATIONS[place].name),
             None => format!("step: unlisted operation #{code:X}"),
         },
         Asked::NoByte => "step: fetch outside memory".into(),
@@ -106,8 +107,8 @@ impl Table {
         }
         names.push("no byte".into());
         names.push("unlisted".into());
-        names.extend(FUNCTIONS.map(String::from));
-        names.extend(OPERATIONS.map(|entry| entry.1.into()));
+        let instructions = FUNCTIONS.iter().chain(OPERATIONS.iter());
+        names.extend(instructions.map(|instruction| instruction.name.into()));
         let rows = names.into_iter().map(|name| (name, [0; ANSWERS])).collect();
         Table { rows }
     }
@@ -118,7 +119,7 @@ impl Table {
             self.rows[Call::Step as usize].1[answer] += 1;
         }
         if matches!(asked, Asked::Operation(_)) {
-            self.rows[FUNCTION + 15].1[answer] += 1;
+            self.rows[FUNCTION + function_code("opr") as usize].1[answer] += 1;
         }
         self.rows[row_of(asked)].1[answer] += 1;
     }
@@ -179,10 +180,7 @@ fn row_of(asked: Asked) -> usize {
         Asked::Timer(queue) => TIMERS + queue,
         Asked::NoByte => NO_BYTE,
         Asked::Function(function, _) => FUNCTION + function as usize,
-        Asked::Operation(code) => {
-            let found = OPERATIONS.binary_search_by_key(&code, |entry| entry.0);
-            found.map_or(UNLISTED, |place| OPERATION + place)
-        }
+        Asked::Operation(code) => operation_place(code).map_or(UNLISTED, |place| OPERATION + place),
     }
 }
 

@@ -1,10 +1,10 @@
 //! Document 000, 1.11: alternative input over skip and channel guards.
 
+use crate::answers::Refusal;
 use crate::memory::Work;
 use crate::mistakes::{Care, Mistake};
 use crate::registers::*;
 use crate::words::at_byte;
-use crate::Refusal;
 
 impl<K: Care> Work<'_, K> {
     /// Local 0 takes A before A becomes true (DECISIONS 11).

@@ -1,10 +1,10 @@
 //! Document 000, 1.11: checking, addressing, logic, basic, modulo and part-word arithmetic.
 
+use crate::answers::Refusal;
 use crate::memory::Work;
 use crate::mistakes::{Care, Mistake};
 use crate::registers::*;
 use crate::words::{at_byte, at_word, signed};
-use crate::Refusal;
 
 const BITS_IN_WORD: u32 = 32;
 /// DECISIONS 3: the byte selector has two bits.

@@ -1,11 +1,11 @@
 //! The block move in one step, as document 01 rules: bytes in rising order, each read just before it
 //! is stored, the count unsigned.
 
+use crate::answers::Refusal;
 use crate::memory::{Kept, Work};
 use crate::mistakes::{Care, Mistake};
 use crate::registers::*;
 use crate::words::{at_byte, byte_of, with_byte};
-use crate::Refusal;
 
 impl<K: Care> Work<'_, K> {
     /// Moves A bytes from C to B. The three are references in document 000, so that they end at

@@ -1,12 +1,13 @@
 //! The eight calls. Each call's checks run in the order of document 01's table of answers.
 
+use crate::answers::Refusal;
 use crate::journal;
 use crate::links;
+use crate::machine::Machine;
 use crate::memory::{Kept, Work};
 use crate::mistakes::{Care, Mistake, Right};
 use crate::registers::*;
 use crate::words::with_byte;
-use crate::{Machine, Refusal};
 
 pub const MIN_MEMORY: usize = 64;
 pub const MAX_MEMORY: usize = 16_384;
@@ -71,9 +72,7 @@ impl<K: Care> Emulator<K> {
         memory: &mut [u32],
         journal: &mut [u32],
     ) -> Result<(), Refusal> {
-        check_size(memory, journal)?;
-        journal::check(self.care, machine, journal)?;
-        self.recorded(machine, memory, journal, |work| work.step())
+        self.recorded(machine, memory, journal, Ok(()), |work, ()| work.step())
     }
 
     pub fn tick(
@@ -82,9 +81,7 @@ impl<K: Care> Emulator<K> {
         memory: &mut [u32],
         journal: &mut [u32],
     ) -> Result<(), Refusal> {
-        check_size(memory, journal)?;
-        journal::check(self.care, machine, journal)?;
-        self.recorded(machine, memory, journal, |work| {
+        self.recorded(machine, memory, journal, Ok(()), |work, ()| {
             work.tick();
             Ok(())
         })
@@ -98,10 +95,8 @@ impl<K: Care> Emulator<K> {
         journal: &mut [u32],
         channel: u32,
     ) -> Result<u8, Refusal> {
-        check_size(memory, journal)?;
-        let channel = links::among(channel, 0..4)?;
-        journal::check(self.care, machine, journal)?;
-        self.recorded(machine, memory, journal, |work| work.take(channel))
+        let channel = links::among(channel, 0..4);
+        self.recorded(machine, memory, journal, channel, |work, c| work.take(c))
     }
 
     /// Gives a byte to an input link.
@@ -113,10 +108,10 @@ impl<K: Care> Emulator<K> {
         channel: u32,
         byte: u8,
     ) -> Result<(), Refusal> {
-        check_size(memory, journal)?;
-        let channel = links::among(channel, 4..8)?;
-        journal::check(self.care, machine, journal)?;
-        self.recorded(machine, memory, journal, |work| work.give(channel, byte))
+        let channel = links::among(channel, 4..8);
+        self.recorded(machine, memory, journal, channel, |work, c| {
+            work.give(c, byte)
+        })
     }
 
     pub fn event(
@@ -125,9 +120,7 @@ impl<K: Care> Emulator<K> {
         memory: &mut [u32],
         journal: &mut [u32],
     ) -> Result<(), Refusal> {
-        check_size(memory, journal)?;
-        journal::check(self.care, machine, journal)?;
-        self.recorded(machine, memory, journal, |work| work.event())
+        self.recorded(machine, memory, journal, Ok(()), |work, ()| work.event())
     }
 
     pub fn undo(
@@ -159,17 +152,23 @@ impl<K: Care> Emulator<K> {
         Ok(())
     }
 
-    /// Runs the work of a call, then either adds its record or undoes it from the kept values.
-    fn recorded<T>(
+    /// Makes a call that adds a record: refuses Size, BadChannel and JournalBad in this order, runs
+    /// the body, then either adds the record or restores the old values. `channel` is the answer of
+    /// the channel check; a call without one gives `Ok(())`.
+    fn recorded<C, T>(
         &mut self,
         machine: &mut Machine,
         memory: &mut [u32],
         journal: &mut [u32],
-        body: impl FnOnce(&mut Work<K>) -> Result<T, Refusal>,
+        channel: Result<C, Refusal>,
+        body: impl FnOnce(&mut Work<K>, C) -> Result<T, Refusal>,
     ) -> Result<T, Refusal> {
+        check_size(memory, journal)?;
+        let channel = channel?;
+        journal::check(self.care, machine, journal)?;
         let old = machine.regs;
         self.kept.clear();
-        let done = body(&mut Work {
+        let mut work = Work {
             regs: &mut machine.regs,
             memory,
             kept: &mut self.kept,
@@ -178,7 +177,8 @@ impl<K: Care> Emulator<K> {
             care: self.care,
             starting: false,
             interrupting: false,
-        });
+        };
+        let done = body(&mut work, channel);
         let answer = done.and_then(|done| {
             journal::add(self.care, machine, journal, &old, &mut self.kept)?;
             Ok(done)

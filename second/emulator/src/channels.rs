@@ -1,10 +1,10 @@
 //! Document 000, 1.8 and 1.10: input, output, and requests of hard channels.
 
 use crate::alternatives::chan_offset;
+use crate::answers::Refusal;
 use crate::memory::Work;
 use crate::mistakes::{Care, Mistake};
 use crate::registers::*;
-use crate::Refusal;
 
 impl<K: Care> Work<'_, K> {
     pub fn handle_channel_request(&mut self, request: u32, hc: usize) -> Result<(), Refusal> {

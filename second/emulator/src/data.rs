@@ -1,10 +1,10 @@
 //! Document 000, 1.11: register manipulation, loops and bytes in memory.
 
+use crate::answers::Refusal;
 use crate::memory::Work;
 use crate::mistakes::{Care, Mistake};
 use crate::registers::*;
 use crate::words::{at_byte, at_word, signed};
-use crate::Refusal;
 
 impl<K: Care> Work<'_, K> {
     pub fn ret(&mut self) -> Result<(), Refusal> {

@@ -1,10 +1,10 @@
 //! Document 000, 1.11: the direct functions.
 
+use crate::answers::Refusal;
 use crate::memory::Work;
 use crate::mistakes::{Care, Mistake};
 use crate::registers::*;
 use crate::words::{at_byte, at_word, machine, signed};
-use crate::Refusal;
 
 impl<K: Care> Work<'_, K> {
     /// Any function but the two prefixes.

@@ -1,9 +1,10 @@
 //! Document 01, "The journal".
 
+use crate::answers::Refusal;
+use crate::machine::Machine;
 use crate::memory::Kept;
 use crate::mistakes::{Care, Mistake};
 use crate::registers::{Registers, REGISTERS};
-use crate::{Machine, Refusal};
 
 /// Words of a record without pairs: the registers and the number of pairs.
 pub const RECORD: usize = REGISTERS + 1;

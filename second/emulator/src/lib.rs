@@ -7,6 +7,7 @@
 #![forbid(unsafe_code)]
 
 mod alternatives;
+mod answers;
 mod arithmetic;
 mod blockmove;
 mod calls;
@@ -16,9 +17,11 @@ mod functions;
 mod journal;
 mod links;
 mod long;
+mod machine;
 mod memory;
 mod mistakes;
 mod operations;
+mod processor;
 pub mod registers;
 mod scheduling;
 mod step;
@@ -26,55 +29,9 @@ mod timers;
 mod walk;
 mod words;
 
+pub use answers::{number, Refusal};
 pub use calls::{Emulator, MAX_JOURNAL, MAX_MEMORY, MIN_MEMORY};
 pub use journal::RECORD;
+pub use machine::Machine;
 pub use mistakes::{Care, Mistake, Right, Wrong};
 pub use registers::{Registers, REGISTERS};
-
-/// Everything of a machine that is not lent: document 01's 45 register words, and the journal's size.
-#[derive(Clone, Debug, PartialEq, Eq)]
-pub struct Machine {
-    pub regs: Registers,
-    pub depth: u64,
-    pub used: u64,
-}
-
-impl Machine {
-    /// What a refused `fresh` answers: registers, depth and used all 0.
-    pub const ZERO: Machine = Machine {
-        regs: [0; REGISTERS],
-        depth: 0,
-        used: 0,
-    };
-}
-
-/// Document 01, "Answers by number".
-#[derive(Clone, Copy, Debug, PartialEq, Eq)]
-pub enum Refusal {
-    Size = 1,
-    CodeSize = 2,
-    BadChannel = 3,
-    JournalBad = 4,
-    NothingToUndo = 5,
-    Halted = 6,
-    Idle = 7,
-    NotReady = 8,
-    Unlisted = 9,
-    Outside = 10,
-    Stop = 11,
-    JournalFull = 12,
-}
-
-impl Refusal {
-    pub fn number(self) -> u32 {
-        self as u32
-    }
-}
-
-/// The answer as a number: 0 accepted, else the refusal.
-pub fn number<T>(answer: &Result<T, Refusal>) -> u32 {
-    match answer {
-        Ok(_) => 0,
-        Err(refusal) => refusal.number(),
-    }
-}

@@ -2,11 +2,11 @@
 
 use std::ops::Range;
 
+use crate::answers::Refusal;
 use crate::memory::Work;
 use crate::mistakes::{Care, Mistake};
 use crate::registers::*;
 use crate::words::byte_of;
-use crate::Refusal;
 
 /// BadChannel for a link outside the call's own.
 pub fn among(channel: u32, links: Range<u32>) -> Result<usize, Refusal> {

@@ -1,10 +1,10 @@
 //! Document 000, 1.11: long arithmetic.
 
+use crate::answers::Refusal;
 use crate::memory::Work;
 use crate::mistakes::{Care, Mistake};
 use crate::registers::*;
 use crate::words::signed;
-use crate::Refusal;
 
 const RANGE: u64 = 1 << 32;
 const DOUBLE: u32 = 64;

@@ -5,10 +5,10 @@
 
 use std::ops::Range;
 
+use crate::answers::Refusal;
 use crate::mistakes::{Care, Mistake};
 use crate::registers::*;
 use crate::words::{at_word, byte_of, with_byte};
-use crate::Refusal;
 
 /// A stored word's index and its value before the call.
 pub type Kept = (u32, u32);

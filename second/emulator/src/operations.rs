@@ -1,10 +1,10 @@
 //! Document 000, 1.11: the operations, with document 01's built list (81 codes, DECISIONS 1).
 
+use crate::answers::Refusal;
 use crate::memory::Work;
 use crate::mistakes::{Care, Mistake};
 use crate::registers::*;
 use crate::words::{machine, signed};
-use crate::Refusal;
 
 impl<K: Care> Work<'_, K> {
     /// `Secondary`: the code is the whole operand.

@@ -1,10 +1,10 @@
 //! Document 000, 1.8 to 1.10: processes, queues and interrupts.
 
+use crate::answers::Refusal;
 use crate::memory::Work;
 use crate::mistakes::{Care, Mistake};
 use crate::registers::*;
 use crate::words::at_byte;
-use crate::Refusal;
 
 /// A low process is sliced from this value of the slice register on.
 const SLICE_PERIOD: u32 = 1024;

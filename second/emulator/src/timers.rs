@@ -1,11 +1,11 @@
 //! Document 000, 1.8 and 1.10: clocks, timer queues and timer input.
 
+use crate::answers::Refusal;
 use crate::memory::Work;
 use crate::mistakes::{Care, Mistake};
 use crate::registers::*;
 use crate::walk::Walk;
 use crate::words::{at_word, later};
-use crate::Refusal;
 
 impl<K: Care> Work<'_, K> {
     fn clock(&self) -> u32 {

@@ -1,6 +1,6 @@
 //! Rings in timer queues.
 
-use crate::Refusal;
+use crate::answers::Refusal;
 
 /// Tells a walk that runs in a ring (DECISIONS 27): the next pointer depends on the last one alone,
 /// so a value that comes again comes for ever. The mark is set anew after 1, 2, 4, .. pointers, so

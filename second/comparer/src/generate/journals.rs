@@ -1,8 +1,7 @@
 //! Journals: roomy, just fitting, full, foreign and damaged ones.
 
-use emulator::{RECORD, REGISTERS};
+use emulator::{MAX_JOURNAL, RECORD, REGISTERS};
 
-use super::journal_limit;
 use crate::case::{Call, Case};
 use crate::random::Random;
 
@@ -25,7 +24,7 @@ pub fn prepare(random: &mut Random, case: &mut Case) {
     };
     let mut length = used + room as usize;
     if random.below(1500) == 0 {
-        length = journal_limit(random);
+        length = limit(random);
     }
     case.journal = (0..length)
         .map(|_| word(random, case.memory.len()))
@@ -45,6 +44,11 @@ pub fn prepare(random: &mut Random, case: &mut Case) {
     if random.percent(4) {
         damage(random, case);
     }
+}
+
+/// The journal's limit itself and the first length above it.
+fn limit(random: &mut Random) -> usize {
+    MAX_JOURNAL + random.below(2) as usize
 }
 
 /// A record of other hands: indices mostly rise, sometimes come twice, fall or lie outside.

@@ -1,11 +1,11 @@
 //! Random cases that are likely to be accepted and whose parts are likely to touch each other.
 
-mod instructions;
 mod journals;
 mod scene;
+mod steps;
 mod timers;
 
-use emulator::{Machine, MAX_JOURNAL, MAX_MEMORY, MIN_MEMORY};
+use emulator::{Machine, MAX_MEMORY, MIN_MEMORY};
 
 use crate::case::{Call, Case};
 use crate::random::Random;
@@ -45,8 +45,9 @@ impl Generator {
         let call = random.pick(&self.calls);
         let size = memory_size(random);
         let mut scene = Scene::new(random, size);
+        timers::queues(random, &mut scene);
         if call == Call::Step {
-            instructions::prepare_step(random, &mut scene);
+            steps::prepare(random, &mut scene);
         }
         scene.damage(random);
         let mut case = Case {
@@ -82,11 +83,6 @@ fn memory_size(random: &mut Random) -> usize {
         9..=300 => MIN_MEMORY,
         _ => random.between(MIN_MEMORY as u32, 104) as usize,
     }
-}
-
-/// The journal's limit itself and the first length above it.
-fn journal_limit(random: &mut Random) -> usize {
-    MAX_JOURNAL + random.below(2) as usize
 }
 
 fn channel(random: &mut Random, call: Call) -> u32 {

@@ -2,7 +2,6 @@
 
 use emulator::registers::*;
 
-use super::timers;
 use crate::random::Random;
 
 /// A state under construction.
@@ -15,6 +14,7 @@ pub struct Scene {
 }
 
 impl Scene {
+    /// Builds a scene without timer queues.
     pub fn new(random: &mut Random, size: usize) -> Scene {
         let mut scene = Scene {
             size,
@@ -28,9 +28,6 @@ impl Scene {
         scene.special_words(random);
         scene.processor(random);
         scene.channels(random);
-        for queue in 0..2 {
-            timers::queue(random, &mut scene, queue);
-        }
         scene
     }
 

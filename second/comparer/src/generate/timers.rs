@@ -5,7 +5,14 @@ use emulator::registers::*;
 use super::scene::Scene;
 use crate::random::Random;
 
-pub fn queue(random: &mut Random, scene: &mut Scene, queue: usize) {
+/// Puts both timer queues into a scene.
+pub fn queues(random: &mut Random, scene: &mut Scene) {
+    for queue in 0..2 {
+        timer_queue(random, scene, queue);
+    }
+}
+
+fn timer_queue(random: &mut Random, scene: &mut Scene, queue: usize) {
     if random.percent(25) {
         scene.put(TIMER_BASE, queue as u32, NOT_PROCESS);
         return;

@@ -3,19 +3,8 @@
 use emulator::registers::*;
 
 use super::scene::Scene;
-use crate::names::{code_of, OPERATIONS};
+use crate::instructions::{function_code, operation_code, FUNCTIONS, OPERATIONS};
 use crate::random::Random;
-
-// Direct functions that want operands of their own.
-const J: u32 = 0;
-const LDNL: u32 = 3;
-const LDC: u32 = 4;
-const ADC: u32 = 8;
-const CJ: u32 = 10;
-const EQC: u32 = 12;
-const STL: u32 = 13;
-const STNL: u32 = 14;
-const OPR: u32 = 15;
 
 /// Operations with many branches, drawn more often than the rest.
 const BUSY: [&str; 22] = [
@@ -23,20 +12,20 @@ const BUSY: [&str; 22] = [
     "taltwt", "altwt", "startp", "endp", "runp", "stopp", "stoperr", "lend", "move", "in", "out",
 ];
 
-pub fn prepare_step(random: &mut Random, scene: &mut Scene) {
+pub fn prepare(random: &mut Random, scene: &mut Scene) {
     match random.below(100) {
         0..=9 => channel_request(random, scene),
         10..=16 => timer_request(random, scene),
         17..=40 => function(random, scene),
         41 => unlisted(random, scene),
         _ => {
-            let any = random.pick(&OPERATIONS).1;
+            let any = random.pick(&OPERATIONS).name;
             let busy = random.pick(&BUSY);
             let name = if random.percent(55) { any } else { busy };
             if random.percent(80) {
                 operands(random, scene, name);
             }
-            place(random, scene, OPR, code_of(name));
+            place(random, scene, "opr", operation_code(name));
         }
     }
 }
@@ -75,30 +64,31 @@ fn timer_request(random: &mut Random, scene: &mut Scene) {
 }
 
 fn function(random: &mut Random, scene: &mut Scene) {
-    let function = random.below(OPR);
+    let all_but_opr = FUNCTIONS.len() - 1;
+    let name = random.pick(&FUNCTIONS[..all_but_opr]).name;
     let near = random.below(16).wrapping_sub(6);
     let any = random.word();
-    let mut operand = match function {
-        J => random.below(40).wrapping_sub(20),
-        LDC => random.pick(&[near, any]),
+    let mut operand = match name {
+        "j" => random.below(40).wrapping_sub(20),
+        "ldc" => random.pick(&[near, any]),
         _ if random.percent(90) => near,
         _ => any,
     };
-    if function == STL && random.percent(30) {
+    if name == "stl" && random.percent(30) {
         operand = scheduler_word(random, scene).wrapping_sub(scene.regs[WDESC] & !1) / 4;
     }
-    if function == ADC || function == EQC {
+    if name == "adc" || name == "eqc" {
         scene.regs[A] = edge(random);
         let same = scene.regs[A];
         operand = random.pick(&[near, any, same]);
     }
-    if (function == LDNL || function == STNL) && random.percent(85) {
+    if (name == "ldnl" || name == "stnl") && random.percent(85) {
         scene.regs[A] = scene.address(random);
     }
-    if function == CJ {
+    if name == "cj" {
         scene.regs[A] = random.below(2);
     }
-    place(random, scene, function, operand);
+    place(random, scene, name, operand);
 }
 
 /// A word that StartNextProcess is going to read: the step's own stores must be seen there.
@@ -117,11 +107,11 @@ fn unlisted(random: &mut Random, scene: &mut Scene) {
     let any = random.word();
     let above = random.between(0x5A, 0x200);
     let code = random.pick(&[0x11, 0x14, 0x23, 0x28, 0x2D, 0x63, 0x19B, above, above, any]);
-    place(random, scene, OPR, code);
+    place(random, scene, "opr", code);
 }
 
 /// Puts the last byte of an instruction at Iptr and the rest of its operand into Oreg.
-fn place(random: &mut Random, scene: &mut Scene, function: u32, operand: u32) {
+fn place(random: &mut Random, scene: &mut Scene, function: &str, operand: u32) {
     scene.regs[OREG] = operand & !15;
     // The last nibble is ORed in, so it may stand in Oreg already, in part or with others.
     if random.percent(4) {
@@ -129,7 +119,7 @@ fn place(random: &mut Random, scene: &mut Scene, function: u32, operand: u32) {
         scene.regs[OREG] |= others & random.below(16);
     }
     let iptr = scene.regs[IPTR];
-    scene.put_byte(iptr, (function << 4) | (operand & 15));
+    scene.put_byte(iptr, (function_code(function) << 4) | (operand & 15));
     if scene.regs[OREG] == 0 {
         if random.percent(97) {
             quiet_channels(scene);
