@@ -4,8 +4,8 @@ use crate::long_sums::low_word;
 use crate::long_sums::split;
 use core_ops::errors::error_if;
 use core_ops::errors::set_error_flag;
-use core_ops::logic::goes;
-use core_ops::logic::halts;
+use core_ops::logic::completed;
+use core_ops::logic::stopped;
 use rules::Attempt;
 use rules::Core;
 use rules::names::*;
@@ -92,13 +92,13 @@ pub fn lshl(s: Core) -> Attempt
     ensures { λ r. ⌜ r ≡ stack.lshl s ⌝ }
 {
     if 64 < s.a {
-        return halts(s);
+        return stopped(s);
     }
     if s.a == 64 {
-        return goes(split(0, 0, s));
+        return completed(split(0, 0, s));
     }
     let v = double(s.c, s.b) << s.a;
-    goes(split(low_word(v), high_word(v), s))
+    completed(split(low_word(v), high_word(v), s))
 }
 
 // The high word goes on top.
@@ -106,11 +106,11 @@ pub fn lshr(s: Core) -> Attempt
     ensures { λ r. ⌜ r ≡ stack.lshr s ⌝ }
 {
     if 64 < s.a {
-        return halts(s);
+        return stopped(s);
     }
     if s.a == 64 {
-        return goes(split(0, 0, s));
+        return completed(split(0, 0, s));
     }
     let v = double(s.c, s.b) >> s.a;
-    goes(split(high_word(v), low_word(v), s))
+    completed(split(high_word(v), low_word(v), s))
 }

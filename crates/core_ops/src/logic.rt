@@ -68,8 +68,8 @@ pub fn bitnot(s: Core) -> Core
     with_a(!s.a, s)
 }
 
-pub fn goes(s: Core) -> Attempt
-    ensures { λ r. ⌜ r ≡ stack.goes s ⌝ }
+pub fn completed(s: Core) -> Attempt
+    ensures { λ r. ⌜ r ≡ stack.completed s ⌝ }
 {
     Attempt {
         core: s,
@@ -77,8 +77,8 @@ pub fn goes(s: Core) -> Attempt
     }
 }
 
-pub fn halts(s: Core) -> Attempt
-    ensures { λ r. ⌜ r ≡ stack.halts s ⌝ }
+pub fn stopped(s: Core) -> Attempt
+    ensures { λ r. ⌜ r ≡ stack.stopped s ⌝ }
 {
     Attempt {
         core: s,
@@ -91,22 +91,22 @@ pub fn shl(s: Core) -> Attempt
     ensures { λ r. ⌜ r ≡ stack.shl s ⌝ }
 {
     if 32 < s.a {
-        return halts(s);
+        return stopped(s);
     }
     if s.a == 32 {
-        return goes(result(0, s));
+        return completed(result(0, s));
     }
-    goes(result(s.b << s.a, s))
+    completed(result(s.b << s.a, s))
 }
 
 pub fn shr(s: Core) -> Attempt
     ensures { λ r. ⌜ r ≡ stack.shr s ⌝ }
 {
     if s.a > 32 {
-        return halts(s);
+        return stopped(s);
     }
     if s.a == 32 {
-        return goes(result(0, s));
+        return completed(result(0, s));
     }
-    goes(result(s.b >> s.a, s))
+    completed(result(s.b >> s.a, s))
 }

@@ -23,7 +23,7 @@ const BREG_PLACE: u32 = 0xFFFF_FFFE;
 const CREG_PLACE: u32 = 0xFFFF_FFFF;
 
 // How many words a frame takes, and the word of that number below 0.
-const FRAME: u32 = 4;
+const EMPTY_RECORD: u32 = 4;
 
 const MINUS_FRAME: u32 = 0xFFFF_FFFC;
 
@@ -62,7 +62,7 @@ pub fn ret(w: Plan, mem: &[u32]) -> Plan
 {
     adjusted(
         r_index_word(w, mem, w.regs[WDESC_REG] & WPTR_MASK, 0, IPTR_REG),
-        FRAME,
+        EMPTY_RECORD,
     )
 }
 

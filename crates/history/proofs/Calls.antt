@@ -12,8 +12,8 @@ use Rattle.rules.specs.Tests.{pick, ifEq, ifLt}
 use Rattle.rules.specs.Registers.{registers}
 use Rattle.rules.specs.Memory.{stores}
 use Rattle.rules.specs.Work.{Work}
-use Rattle.rules.specs.Journal.{recordLength, recordOf, frameBad, lastPairs, lastStart, lastRegs, pairsAt, writeBack, strays}
-use Rattle.rules.specs.Calls.{Outcome, machineOf, memoryBad, journalBad, sizeBad, recorded, settled, checked, undone, undoLast}
+use Rattle.rules.specs.Journal.{recordLength, recordOf, boundsBad, lastPairs, lastStart, lastRegs, pairsAt, writeBack, strays}
+use Rattle.rules.specs.Calls.{Outcome, machineOf, memorySizeBad, journalSizeBad, sizeBad, recorded, commitOrRefuse, checked, undone, undoLast}
 use Rattle.rules.specs.Calls as calls
 use Rattle.laws.proofs.Calls.{kept-step, kept-tick, kept-take, kept-give, kept-event, kept-undo}
 use Rattle.laws.proofs.Touched.{length-record}
@@ -51,8 +51,8 @@ module _ (s : Whole) where
   told-checks false false true d o e = refl
   told-checks false false false d o e = e
 
-  told-settled : (byte : ℕ) (k : Work) → Whole45 s → settle (view s) (effect (view s .core) byte k) ≡ told (settled (s .machine) (s .memory) (s .journal) byte k)
-  unfolding effect settled recorded ifEq ifLt
+  told-settled : (byte : ℕ) (k : Work) → Whole45 s → settle (view s) (effect (view s .core) byte k) ≡ told (commitOrRefuse (s .machine) (s .memory) (s .journal) byte k)
+  unfolding effect commitOrRefuse recorded ifEq ifLt
   told-settled byte k h = by-answer (eqb (k .answer) 0) refl
     where
       ks : List ℕ
@@ -130,11 +130,11 @@ module _ (s : Whole) where
       → guarded (checks a) (view s) d ≡ told (checked (badChannel a) (s .machine) (s .memory) (s .journal) o)
   unfolding checks guard checked sizeBad
   told-checked a d o e =
-      told-checks (memoryBad (length (s .memory)) || journalBad (length (s .journal))) (badChannel a) (frameBad (length (s .journal)) (s .machine .depth) (s .machine .used)) d o e
+      told-checks (memorySizeBad (length (s .memory)) || journalSizeBad (length (s .journal))) (badChannel a) (boundsBad (length (s .journal)) (s .machine .depth) (s .machine .used)) d o e
 
   told-call : (c : Call) → Whole45 s
       → guarded (checks (call c)) (view s) (settle (view s) (effect (view s .core) (byteOf c (view s .core)) (work c (view s .core))))
-      ≡ told (checked (badChannel (call c)) (s .machine) (s .memory) (s .journal) (settled (s .machine) (s .memory) (s .journal) (byteOf c (view s .core)) (work c (view s .core))))
+      ≡ told (checked (badChannel (call c)) (s .machine) (s .memory) (s .journal) (commitOrRefuse (s .machine) (s .memory) (s .journal) (byteOf c (view s .core)) (work c (view s .core))))
   told-call c h = told-checked (call c) _ _ (told-settled (byteOf c (view s .core)) (work c (view s .core)) h)
 
   pub performs : (a : Act Call) → Whole45 s → generic.perform t414 a (view s) ≡ told (perform a s)

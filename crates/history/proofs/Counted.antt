@@ -9,8 +9,8 @@ use native.Mathlib.Omega.{arith}
 use lib.ListN.{length}
 use Rattle.rules.specs.Memory.{touched}
 use Rattle.rules.specs.Work.{Work}
-use Rattle.rules.specs.Journal.{recordLength, frameBad, lastPairs, lastStart, pairsAt, strays}
-use Rattle.rules.specs.Calls.{Outcome, outcomeOf, sizeBad, codeBad, recorded, settled, checked, undone, undoLast}
+use Rattle.rules.specs.Journal.{recordLength, boundsBad, lastPairs, lastStart, pairsAt, strays}
+use Rattle.rules.specs.Calls.{Outcome, outcomeOf, sizeBad, codeBad, recorded, commitOrRefuse, checked, undone, undoLast}
 use Rattle.rules.specs.Calls as rules
 use Rattle.rules.specs.declared.Machine.{Machine}
 use Rattle.rules.specs.declared.Reply.{Reply}
@@ -32,15 +32,15 @@ module _ (d u : ℕ) where
   counts-checked bad m mem j o h =
       on-pick (Counts d u) (sizeBad mem j) (counts-refused 1 (λ e. omega (arith, e)) m mem j)
       (on-pick (Counts d u) bad (counts-refused 3 (λ e. omega (arith, e)) m mem j)
-      (on-pick (Counts d u) (frameBad (length j) (m .depth) (m .used)) (counts-refused 4 (λ e. omega (arith, e)) m mem j) h))
+      (on-pick (Counts d u) (boundsBad (length j) (m .depth) (m .used)) (counts-refused 4 (λ e. omega (arith, e)) m mem j) h))
 
 module _ (m : Machine) (mem j : List ℕ) where
   -- one record more
   abbrev pub Adds : Work → Outcome → Type 0
   Adds w o = Counts (m .depth + 1) (m .used + recordLength (length (touched (length mem) (w .stored)))) o
 
-  counts-settled : (byte : ℕ) (w : Work) → Adds w (settled m mem j byte w)
-  unfolding settled recorded
+  counts-settled : (byte : ℕ) (w : Work) → Adds w (commitOrRefuse m mem j byte w)
+  unfolding commitOrRefuse recorded
   counts-settled byte w =
       cases-eq (w .answer) 0
       (λ e. rw (yes-eq e) (on-lt (Adds w) _ _ (counts-refused _ _ 12 (λ z. omega (arith, z)) m mem j) (record { counts = λ z. (refl, refl) })))

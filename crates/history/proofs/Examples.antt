@@ -15,8 +15,8 @@ use Rattle.rules.specs.Timers.{timerDue, timerReady}
 use Rattle.rules.specs.Channels.{requestFrom, requested}
 use Rattle.rules.specs.Operations.{functions, function}
 use Rattle.rules.specs.Step as steps
-use Rattle.rules.specs.Journal.{olds, recordOf, frameBad, lastPairs, lastStart, lastRegs, pairsAt, writeBack, strays}
-use Rattle.rules.specs.Calls.{memoryBad, journalBad, sizeBad, codeBad, recorded, settled, checked, undone, undoLast, codeWord, freshWord, freshMemory, freshRegs, fresh}
+use Rattle.rules.specs.Journal.{olds, recordOf, boundsBad, lastPairs, lastStart, lastRegs, pairsAt, writeBack, strays}
+use Rattle.rules.specs.Calls.{memorySizeBad, journalSizeBad, sizeBad, codeBad, recorded, commitOrRefuse, checked, undone, undoLast, codeWord, freshWord, freshMemory, freshRegs, fresh}
 use Rattle.rules.specs.Calls as calls
 use Rattle.history.specs.Machine.{Act, call, undo}
 use Rattle.history.specs.T414.{Call, step, Whole, perform, after, run, standing}
@@ -37,5 +37,5 @@ pub two-steps : (facts (run steps2 begun) ≡ 2 ∷ 2 ∷ 92 ∷ 0 ∷ [])
     × (facts (run (undo ∷ undo ∷ []) (run steps2 begun)) ≡ 0 ∷ 0 ∷ 0 ∷ 5 ∷ [])
     × (standing (call step ∷ call step ∷ undo ∷ []) begun [] ≡ step ∷ [])
     × (perform (call step) (run steps2 begun) .answer ≡ 12)
-unfolding run standing fresh freshRegs freshMemory freshWord codeWord codeBad memoryBad journalBad sizeBad ifLt ifLe ifEq calls.step calls.undo checked settled recorded undone undoLast frameBad lastPairs lastStart lastRegs pairsAt writeBack strays olds recordOf touched touchedFrom hit stores storing steps.step steps.choose steps.channelsFirst steps.timersFirst steps.instructionUnlessIdle steps.instruction steps.decode steps.execute steps.fetched steps.haltOnError steps.haltIfAsked function functions requested requestFrom timerReady timerDue put putCore coreOf withCore wordAt byteAt access refuseAt actOnSNP j timeSlice sliceIfRunning overflowCheck overflows sign restoreToRange
+unfolding run standing fresh freshRegs freshMemory freshWord codeWord codeBad memorySizeBad journalSizeBad sizeBad ifLt ifLe ifEq calls.step calls.undo checked commitOrRefuse recorded undone undoLast boundsBad lastPairs lastStart lastRegs pairsAt writeBack strays olds recordOf touched touchedFrom hit stores storing steps.step steps.choose steps.channelsFirst steps.timersFirst steps.instructionUnlessIdle steps.instruction steps.decode steps.execute steps.fetched steps.haltOnError steps.haltIfAsked function functions requested requestFrom timerReady timerDue put putCore coreOf withCore wordAt byteAt access refuseAt actOnSNP j timeSlice sliceIfRunning overflowCheck overflows sign restoreToRange
 two-steps = (refl, refl, refl, refl, refl)

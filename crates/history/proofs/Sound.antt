@@ -13,8 +13,8 @@ use Rattle.rules.specs.Tests.{pick, ifEq}
 use Rattle.rules.specs.Registers.{registers}
 use Rattle.rules.specs.Memory.{stores}
 use Rattle.rules.specs.Work.{Work}
-use Rattle.rules.specs.Journal.{recordLength, recordOf, frameBad}
-use Rattle.rules.specs.Calls.{memoryBad, journalBad}
+use Rattle.rules.specs.Journal.{recordLength, recordOf, boundsBad}
+use Rattle.rules.specs.Calls.{memorySizeBad, journalSizeBad}
 use Rattle.rules.proofs.Tests.{no-lt}
 use Rattle.laws.proofs.Fine.{Fine, Known, fine-begin}
 use Rattle.laws.proofs.FineLinks.{fine-tick, fine-take, fine-give, fine-event}
@@ -71,8 +71,8 @@ unrecord-last x k h front j t =
 -- ---- the checks before an undo
 
 -- 46 words a record: the frame stays good
-frame-good : (size depth used n : ℕ) → frameBad size depth used ≡ false → recordLength 0 ≤ n → used + n ≤ size → frameBad size (depth + 1) (used + n) ≡ false
-unfolding frameBad
+frame-good : (size depth used n : ℕ) → boundsBad size depth used ≡ false → recordLength 0 ≤ n → used + n ≤ size → boundsBad size (depth + 1) (used + n) ≡ false
+unfolding boundsBad
 frame-good size depth used n e l f = go (ltb size used) (ltb used (recordLength 0 * depth)) refl e
   where
     go : (a b : Bool) → ltb used (recordLength 0 * depth) ≡ b → (a || b) ≡ false → (ltb size (used + n) || ltb (used + n) (recordLength 0 * (depth + 1))) ≡ false
@@ -83,9 +83,9 @@ frame-good size depth used n e l f = go (ltb size used) (ltb used (recordLength 
 
 -- what a guard that lets pass tells
 guard-told : (a : Act Call) (x : Plain) (size depth used : ℕ) → guard a x size depth used ≡ none
-    → ((memoryBad (length (x .mem)) || journalBad size) ≡ false) × (frameBad size depth used ≡ false)
+    → ((memorySizeBad (length (x .mem)) || journalSizeBad size) ≡ false) × (boundsBad size depth used ≡ false)
 unfolding guard
-guard-told a x size depth used e = go (memoryBad (length (x .mem)) || journalBad size) (badChannel a) (frameBad size depth used) e
+guard-told a x size depth used e = go (memorySizeBad (length (x .mem)) || journalSizeBad size) (badChannel a) (boundsBad size depth used) e
   where
     go : (p q r : Bool) → _≡_ {A = Option ℕ} (pick p (some 1) (pick q (some 3) (pick r (some 4) none))) none → (p ≡ false) × (r ≡ false)
     go true q r e = (cc, cc)

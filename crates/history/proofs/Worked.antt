@@ -16,8 +16,8 @@ use Rattle.rules.specs.Channels.{requestFrom, requested}
 use Rattle.rules.specs.Links as links
 use Rattle.rules.specs.Operations.{functions, function}
 use Rattle.rules.specs.Step as steps
-use Rattle.rules.specs.Journal.{olds, recordOf, frameBad, lastPairs, lastStart, lastRegs, pairsAt, writeBack, strays}
-use Rattle.rules.specs.Calls.{memoryBad, journalBad, sizeBad, codeBad, notOutput, notInput, recorded, settled, checked, undone, undoLast, codeWord, freshWord, freshMemory, freshRegs, fresh}
+use Rattle.rules.specs.Journal.{olds, recordOf, boundsBad, lastPairs, lastStart, lastRegs, pairsAt, writeBack, strays}
+use Rattle.rules.specs.Calls.{memorySizeBad, journalSizeBad, sizeBad, codeBad, notOutput, notInput, recorded, commitOrRefuse, checked, undone, undoLast, codeWord, freshWord, freshMemory, freshRegs, fresh}
 use Rattle.rules.specs.Calls as rules
 use Rattle.history.specs.Machine.{Act, call, undo}
 use Rattle.history.specs.T414.{Call, step, tick, take, give, Whole, perform, after, run, standing}
@@ -56,9 +56,9 @@ acts =
     ∷ []
 
 pub answered : answers acts begun ≡ 5 ∷ 8 ∷ 3 ∷ 0 ∷ 0 ∷ 0 ∷ 8 ∷ 0 ∷ 12 ∷ 0 ∷ 0 ∷ 5 ∷ 0 ∷ 0 ∷ 12 ∷ []
-unfolding answers run standing fresh freshRegs freshMemory freshWord codeWord codeBad memoryBad journalBad sizeBad notOutput notInput ifLt ifLe ifEq rules.step rules.tick rules.take rules.give rules.undo checked settled recorded undone undoLast frameBad lastPairs lastStart lastRegs pairsAt writeBack strays olds recordOf touched touchedFrom hit stores storing steps.step steps.choose steps.channelsFirst steps.timersFirst steps.instructionUnlessIdle steps.instruction steps.decode steps.execute steps.fetched steps.haltOnError steps.haltIfAsked links.tick links.take links.taken links.takeByte links.give links.hold links.noticeHeld links.receive function functions requested requestFrom timerReady timerDue put raise lower putCore coreOf withCore wordAt byteAt access refuseAt actOnSNP j timeSlice sliceIfRunning overflowCheck overflows sign restoreToRange
+unfolding answers run standing fresh freshRegs freshMemory freshWord codeWord codeBad memorySizeBad journalSizeBad sizeBad notOutput notInput ifLt ifLe ifEq rules.step rules.tick rules.take rules.give rules.undo checked commitOrRefuse recorded undone undoLast boundsBad lastPairs lastStart lastRegs pairsAt writeBack strays olds recordOf touched touchedFrom hit stores storing steps.step steps.choose steps.channelsFirst steps.timersFirst steps.instructionUnlessIdle steps.instruction steps.decode steps.execute steps.fetched steps.haltOnError steps.haltIfAsked links.tick links.take links.taken links.takeByte links.give links.hold links.noticeHeld links.receive function functions requested requestFrom timerReady timerDue put raise lower putCore coreOf withCore wordAt byteAt access refuseAt actOnSNP j timeSlice sliceIfRunning overflowCheck overflows sign restoreToRange
 answered = refl
 
 pub ends : (facts (run acts begun) ≡ 2 ∷ 2 ∷ 92 ∷ []) × (standing acts begun [] ≡ step ∷ step ∷ [])
-unfolding answers run standing fresh freshRegs freshMemory freshWord codeWord codeBad memoryBad journalBad sizeBad notOutput notInput ifLt ifLe ifEq rules.step rules.tick rules.take rules.give rules.undo checked settled recorded undone undoLast frameBad lastPairs lastStart lastRegs pairsAt writeBack strays olds recordOf touched touchedFrom hit stores storing steps.step steps.choose steps.channelsFirst steps.timersFirst steps.instructionUnlessIdle steps.instruction steps.decode steps.execute steps.fetched steps.haltOnError steps.haltIfAsked links.tick links.take links.taken links.takeByte links.give links.hold links.noticeHeld links.receive function functions requested requestFrom timerReady timerDue put raise lower putCore coreOf withCore wordAt byteAt access refuseAt actOnSNP j timeSlice sliceIfRunning overflowCheck overflows sign restoreToRange
+unfolding answers run standing fresh freshRegs freshMemory freshWord codeWord codeBad memorySizeBad journalSizeBad sizeBad notOutput notInput ifLt ifLe ifEq rules.step rules.tick rules.take rules.give rules.undo checked commitOrRefuse recorded undone undoLast boundsBad lastPairs lastStart lastRegs pairsAt writeBack strays olds recordOf touched touchedFrom hit stores storing steps.step steps.choose steps.channelsFirst steps.timersFirst steps.instructionUnlessIdle steps.instruction steps.decode steps.execute steps.fetched steps.haltOnError steps.haltIfAsked links.tick links.take links.taken links.takeByte links.give links.hold links.noticeHeld links.receive function functions requested requestFrom timerReady timerDue put raise lower putCore coreOf withCore wordAt byteAt access refuseAt actOnSNP j timeSlice sliceIfRunning overflowCheck overflows sign restoreToRange
 ends = (refl, refl)

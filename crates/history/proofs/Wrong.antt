@@ -21,8 +21,8 @@ use Rattle.rules.specs.Channels.{requestFrom, requested}
 use Rattle.rules.specs.Links as links
 use Rattle.rules.specs.Operations.{functions, function}
 use Rattle.rules.specs.Step as steps
-use Rattle.rules.specs.Journal.{olds, recordOf, frameBad, lastPairs, lastStart, lastRegs, pairsAt, writeBack, strays}
-use Rattle.rules.specs.Calls.{numberOf, Outcome, outcomeOf, memoryBad, journalBad, sizeBad, codeBad, notOutput, notInput, recorded, settled, checked, undone, undoLast, codeWord, freshWord, freshMemory, freshRegs, machineOf, fresh}
+use Rattle.rules.specs.Journal.{olds, recordOf, boundsBad, lastPairs, lastStart, lastRegs, pairsAt, writeBack, strays}
+use Rattle.rules.specs.Calls.{numberOf, Outcome, outcomeOf, memorySizeBad, journalSizeBad, sizeBad, codeBad, notOutput, notInput, recorded, commitOrRefuse, checked, undone, undoLast, codeWord, freshWord, freshMemory, freshRegs, machineOf, fresh}
 use Rattle.rules.specs.Calls as rules
 use Rattle.rules.specs.declared.Machine.{Machine}
 use Rattle.rules.proofs.Tests.{yes-eq, no-eq, cases-eq}
@@ -89,7 +89,7 @@ computed : Says rules.step begun 0 areg 0 1
     × (rules.clear (second .machine) (second .memory) (second .journal) .machine .depth ≡ 0)
     × (fresh code lent paper .answer ≡ 0)
     × (getD (fresh code lent paper .memory) 0 0 ≡ 0x8000_0000)
-unfolding fresh freshRegs freshMemory freshWord codeWord codeBad memoryBad journalBad sizeBad notOutput notInput ifLt ifLe ifEq rules.step rules.tick rules.take rules.give rules.event rules.undo rules.clear checked settled recorded undone undoLast frameBad lastPairs lastStart lastRegs pairsAt writeBack strays olds recordOf touched touchedFrom hit stores storing steps.step steps.choose steps.channelsFirst steps.timersFirst steps.instructionUnlessIdle steps.instruction steps.decode steps.execute steps.fetched steps.haltOnError steps.haltIfAsked links.tick links.tickClocks links.tickPrescaler links.tickSlice links.take links.taken links.takeByte links.advance links.endAtZero links.transferEnds links.give links.hold links.noticeHeld links.receive links.event links.eventMeets links.eventHolds function functions requested requestFrom timerReady timerDue put raise lower putCore coreOf withCore wordAt byteAt access refuseAt actOnSNP j timeSlice sliceIfRunning overflowCheck overflows sign restoreToRange
+unfolding fresh freshRegs freshMemory freshWord codeWord codeBad memorySizeBad journalSizeBad sizeBad notOutput notInput ifLt ifLe ifEq rules.step rules.tick rules.take rules.give rules.event rules.undo rules.clear checked commitOrRefuse recorded undone undoLast boundsBad lastPairs lastStart lastRegs pairsAt writeBack strays olds recordOf touched touchedFrom hit stores storing steps.step steps.choose steps.channelsFirst steps.timersFirst steps.instructionUnlessIdle steps.instruction steps.decode steps.execute steps.fetched steps.haltOnError steps.haltIfAsked links.tick links.tickClocks links.tickPrescaler links.tickSlice links.take links.taken links.takeByte links.advance links.endAtZero links.transferEnds links.give links.hold links.noticeHeld links.receive links.event links.eventMeets links.eventHolds function functions requested requestFrom timerReady timerDue put raise lower putCore coreOf withCore wordAt byteAt access refuseAt actOnSNP j timeSlice sliceIfRunning overflowCheck overflows sign restoreToRange
 computed = ((refl, refl, refl), (refl, refl, refl), refl, (refl, refl, refl), (refl, refl, refl), (refl, refl, refl), (refl, refl, refl), (refl, refl, refl), refl, refl, refl, refl)
 
 -- without memory each call is refused with 1
@@ -101,7 +101,7 @@ computed-nowhere : (at rules.step nowhere .answer ≡ 1)
     × (at rules.undo nowhere .answer ≡ 1)
     × (at rules.clear nowhere .answer ≡ 1)
     × (at freshRule nowhere .answer ≡ 1)
-unfolding rules.step rules.tick rules.take rules.give rules.event rules.undo rules.clear fresh checked sizeBad memoryBad
+unfolding rules.step rules.tick rules.take rules.give rules.event rules.undo rules.clear fresh checked sizeBad memorySizeBad
 computed-nowhere = (refl, refl, refl, refl, refl, refl, refl, refl)
 
 -- ---- no function with one answer, refusing or not
@@ -229,7 +229,7 @@ computed-start : Says rules.step start 0 areg 0 1
     × (next .machine .depth ≡ 1)
     × (at rules.step next .answer ≡ 0)
     × (getD (given (plain start) (step ∷ step ∷ []) .regs) areg 0 ≡ 2)
-unfolding given worked fresh freshRegs freshMemory freshWord codeWord codeBad memoryBad journalBad sizeBad notOutput notInput ifLt ifLe ifEq rules.step rules.tick rules.take rules.give rules.event rules.undo rules.clear checked settled recorded undone undoLast frameBad lastPairs lastStart lastRegs pairsAt writeBack strays olds recordOf touched touchedFrom hit stores storing steps.step steps.choose steps.channelsFirst steps.timersFirst steps.instructionUnlessIdle steps.instruction steps.decode steps.execute steps.fetched steps.haltOnError steps.haltIfAsked links.tick links.tickClocks links.tickPrescaler links.tickSlice links.take links.taken links.takeByte links.advance links.endAtZero links.transferEnds links.give links.hold links.noticeHeld links.receive links.event links.eventMeets links.eventHolds function functions requested requestFrom timerReady timerDue put raise lower putCore coreOf withCore wordAt byteAt access refuseAt actOnSNP j timeSlice sliceIfRunning overflowCheck overflows sign restoreToRange
+unfolding given worked fresh freshRegs freshMemory freshWord codeWord codeBad memorySizeBad journalSizeBad sizeBad notOutput notInput ifLt ifLe ifEq rules.step rules.tick rules.take rules.give rules.event rules.undo rules.clear checked commitOrRefuse recorded undone undoLast boundsBad lastPairs lastStart lastRegs pairsAt writeBack strays olds recordOf touched touchedFrom hit stores storing steps.step steps.choose steps.channelsFirst steps.timersFirst steps.instructionUnlessIdle steps.instruction steps.decode steps.execute steps.fetched steps.haltOnError steps.haltIfAsked links.tick links.tickClocks links.tickPrescaler links.tickSlice links.take links.taken links.takeByte links.advance links.endAtZero links.transferEnds links.give links.hold links.noticeHeld links.receive links.event links.eventMeets links.eventHolds function functions requested requestFrom timerReady timerDue put raise lower putCore coreOf withCore wordAt byteAt access refuseAt actOnSNP j timeSlice sliceIfRunning overflowCheck overflows sign restoreToRange
 computed-start = ((refl, refl, refl), refl, refl, refl, refl)
 
 start45 : length (start .machine .regs) ≡ registers

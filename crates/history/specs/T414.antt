@@ -11,8 +11,8 @@ use Rattle.rules.specs.Memory.{stores, touched}
 use Rattle.rules.specs.Work.{Work, begin}
 use Rattle.rules.specs.Links as links
 use Rattle.rules.specs.Step as steps
-use Rattle.rules.specs.Journal.{recordLength, recordOf, frameBad, lastPairs, lastStart, lastRegs, pairsAt, writeBack, strays}
-use Rattle.rules.specs.Calls.{Outcome, memoryBad, journalBad, notOutput, notInput}
+use Rattle.rules.specs.Journal.{recordLength, recordOf, boundsBad, lastPairs, lastStart, lastRegs, pairsAt, writeBack, strays}
+use Rattle.rules.specs.Calls.{Outcome, memorySizeBad, journalSizeBad, notOutput, notInput}
 use Rattle.rules.specs.Calls as calls
 use Rattle.rules.specs.declared.Machine as declared
 use Rattle.history.specs.Machine.{Effect, refused, accepted, Act, call, undo, no-way, done, Machine}
@@ -127,8 +127,8 @@ badChannel undo = false
 -- 1 Size, 3 BadChannel, 4 JournalBad by depth and used, in the table's order (01, Answers by number)
 unfoldable pub guard : Act Call → Plain → ℕ → ℕ → ℕ → Option ℕ
 guard a x size depth used =
-    pick (memoryBad (length (x .mem)) || journalBad size) (some 1)
-    (pick (badChannel a) (some 3) (pick (frameBad size depth used) (some 4) none))
+    pick (memorySizeBad (length (x .mem)) || journalSizeBad size) (some 1)
+    (pick (badChannel a) (some 3) (pick (boundsBad size depth used) (some 4) none))
 
 -- the last record's registers, and its pairs written back; none where 4 JournalBad of undo applies
 -- (01, The journal; 01, Answers by number)

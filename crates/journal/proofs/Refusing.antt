@@ -8,8 +8,8 @@ use lib.Dec.{ltb, leb}
 use lib.ListN.{length}
 use borrow.Author.Tests.{lt-ltb, le-ltb, ltb-false, leb-false}
 use Rattle.rules.specs.Tests.{pick}
-use Rattle.rules.specs.Journal.{frameBad}
-use Rattle.rules.specs.Calls.{Outcome, refused, memoryBad, journalBad, sizeBad, checked, notInput}
+use Rattle.rules.specs.Journal.{boundsBad}
+use Rattle.rules.specs.Calls.{Outcome, refused, memorySizeBad, journalSizeBad, sizeBad, checked, notInput}
 use Rattle.rules.specs.declared.Machine.{Machine}
 use Rattle.journal.specs.Checks.{firstBad}
 
@@ -23,20 +23,20 @@ neither false b e = (refl, e)
 -- ---- sizes
 
 module _ (n l : ℕ) where
-  pub memory-short : n < 64 → true ≡ memoryBad n || journalBad l
-  unfolding memoryBad
+  pub memory-short : n < 64 → true ≡ memorySizeBad n || journalSizeBad l
+  unfolding memorySizeBad
   memory-short h = rw (lt-ltb n 64 h)
 
-  pub memory-long : 64 ≤ n → 16384 < n → true ≡ memoryBad n || journalBad l
-  unfolding memoryBad
+  pub memory-long : 64 ≤ n → 16384 < n → true ≡ memorySizeBad n || journalSizeBad l
+  unfolding memorySizeBad
   memory-long h k = rw (le-ltb n 64 h, lt-ltb 16384 n k)
 
-  pub memory-fits : 64 ≤ n → n ≤ 16384 → ltb 65536 l ≡ memoryBad n || journalBad l
-  unfolding memoryBad journalBad
+  pub memory-fits : 64 ≤ n → n ≤ 16384 → ltb 65536 l ≡ memorySizeBad n || journalSizeBad l
+  unfolding memorySizeBad journalSizeBad
   memory-fits h k = rw (le-ltb n 64 h, le-ltb 16384 n k)
 
-  pub size-good : memoryBad n || journalBad l ≡ false → (64 ≤ n) × (n ≤ 16384) × (l ≤ 65536)
-  unfolding memoryBad journalBad
+  pub size-good : memorySizeBad n || journalSizeBad l ≡ false → (64 ≤ n) × (n ≤ 16384) × (l ≤ 65536)
+  unfolding memorySizeBad journalSizeBad
   size-good e =
       let f = neither (ltb n 64 || ltb 16384 n) (ltb 65536 l) e in
       let g = neither (ltb n 64) (ltb 16384 n) (f .0) in
@@ -64,20 +64,20 @@ input-good c e =
 -- ---- the first that applies
 
 module _ (badChannel : Bool) (n l depth used : ℕ) where
-  pub bad-size : memoryBad n || journalBad l ≡ true → 1 ≡ firstBad badChannel n l depth used
+  pub bad-size : memorySizeBad n || journalSizeBad l ≡ true → 1 ≡ firstBad badChannel n l depth used
   unfolding firstBad
   bad-size h = rw h
 
-  module _ (h : memoryBad n || journalBad l ≡ false) where
+  module _ (h : memorySizeBad n || journalSizeBad l ≡ false) where
     pub bad-channel : badChannel ≡ true → 3 ≡ firstBad badChannel n l depth used
     unfolding firstBad
     bad-channel k = rw (h, k)
 
-    pub bad-frame : badChannel ≡ false → frameBad l depth used ≡ true → 4 ≡ firstBad badChannel n l depth used
+    pub bad-frame : badChannel ≡ false → boundsBad l depth used ≡ true → 4 ≡ firstBad badChannel n l depth used
     unfolding firstBad
     bad-frame k f = rw (h, k, f)
 
-    pub bad-none : badChannel ≡ false → frameBad l depth used ≡ false → 0 ≡ firstBad badChannel n l depth used
+    pub bad-none : badChannel ≡ false → boundsBad l depth used ≡ false → 0 ≡ firstBad badChannel n l depth used
     unfolding firstBad
     bad-none k f = rw (h, k, f)
 
@@ -114,21 +114,21 @@ module _ (badChannel : Bool) (m : Machine) (mem j : List ℕ) where
   pub number-known : number ≤ 12
   unfolding firstBad
   number-known =
-      first-known (memoryBad (length mem) || journalBad (length j)) badChannel (frameBad (length j) (m .depth) (m .used))
+      first-known (memorySizeBad (length mem) || journalSizeBad (length j)) badChannel (boundsBad (length j) (m .depth) (m .used))
 
   pub stopped : (o : Outcome) (n : ℕ) → n ≡ number → (n ≡ 0 → ⊥) → refused n m mem j ≡ checked badChannel m mem j o
   unfolding firstBad checked sizeBad
   stopped o n e h =
       rw e
-      (first-some m mem j o (memoryBad (length mem) || journalBad (length j)) badChannel (frameBad (length j) (m .depth) (m .used))
+      (first-some m mem j o (memorySizeBad (length mem) || journalSizeBad (length j)) badChannel (boundsBad (length j) (m .depth) (m .used))
       (λ z. h (e ∙ z)))
 
   module _ (h : number ≡ 0) where
     parts :
-        (memoryBad (length mem) || journalBad (length j) ≡ false) × (badChannel ≡ false) × (frameBad (length j) (m .depth) (m .used) ≡ false)
+        (memorySizeBad (length mem) || journalSizeBad (length j) ≡ false) × (badChannel ≡ false) × (boundsBad (length j) (m .depth) (m .used) ≡ false)
     unfolding firstBad
     parts =
-        first-none (memoryBad (length mem) || journalBad (length j)) badChannel (frameBad (length j) (m .depth) (m .used)) h
+        first-none (memorySizeBad (length mem) || journalSizeBad (length j)) badChannel (boundsBad (length j) (m .depth) (m .used)) h
 
     pub passed : (o : Outcome) → o ≡ checked badChannel m mem j o
     unfolding checked sizeBad
@@ -140,7 +140,7 @@ module _ (badChannel : Bool) (m : Machine) (mem j : List ℕ) where
     pub channel-good : badChannel ≡ false
     channel-good = parts .1
 
-    pub frame-good : frameBad (length j) (m .depth) (m .used) ≡ false
+    pub frame-good : boundsBad (length j) (m .depth) (m .used) ≡ false
     frame-good = parts .2
 
 -- ---- the last of the numbers: 12 is none of those below it

@@ -11,8 +11,8 @@ use Rattle.rules.specs.Work.{Work, begin}
 use Rattle.rules.specs.Links as links
 use Rattle.rules.specs.Step as steps
 use Rattle.rules.specs.Memory.{stores, touched}
-use Rattle.rules.specs.Journal.{frameBad}
-use Rattle.rules.specs.Calls.{Outcome, refused, memoryBad, journalBad, sizeBad, recorded, settled, clear, machineOf, undo, undoLast}
+use Rattle.rules.specs.Journal.{boundsBad}
+use Rattle.rules.specs.Calls.{Outcome, refused, memorySizeBad, journalSizeBad, sizeBad, recorded, commitOrRefuse, clear, machineOf, undo, undoLast}
 use Rattle.rules.specs.declared.Machine.{Machine}
 use Rattle.rules.proofs.Tests.{yes-eq, no-eq}
 use Rattle.laws.proofs.Fine.{Fine, Known, fine-begin}
@@ -31,7 +31,7 @@ pub ready :
     → p .answer ≤ 12
     → p .cut ≤ p .n
     → p .n ≤ 16
-    → (p .answer ≤ 12) × (p .cut ≤ p .n) × (p .n ≤ 16) × (length mem ≤ 16384) × (length j ≤ 65536) × (frameBad (length j) (m .depth) (m .used) ≡ false)
+    → (p .answer ≤ 12) × (p .cut ≤ p .n) × (p .n ≤ 16) × (length mem ≤ 16384) × (length j ≤ 65536) × (boundsBad (length j) (m .depth) (m .used) ≡ false)
 ready badChannel m mem j h p k c n =
     let f = fits badChannel m mem j h in
     (k, c, n, f .0, f .1, frame-good badChannel m mem j h)
@@ -58,15 +58,15 @@ module _ (regs : List ℕ) (h : length regs ≡ registers) (p : Plan) where
       known-of p (links.give mem c byte (begin regs)) e (fine-give mem c byte (λ k a z kind address. omega arith) (fine-begin regs h))
 
 module _ (m : Machine) (mem j : List ℕ) (byte : ℕ) (w : Work) where
-  pub settled-refused : (w .answer ≡ 0 → ⊥) → refused (w .answer) m mem j ≡ settled m mem j byte w
-  unfolding settled
-  settled-refused h = rw (no-eq h)
+  pub commit-or-refuse-refused : (w .answer ≡ 0 → ⊥) → refused (w .answer) m mem j ≡ commitOrRefuse m mem j byte w
+  unfolding commitOrRefuse
+  commit-or-refuse-refused h = rw (no-eq h)
 
-  pub settled-done :
+  pub commit-or-refuse-done :
       w .answer ≡ 0
-      → recorded m mem j byte (w .regs) (touched (length mem) (w .stored)) (stores mem (w .stored)) ≡ settled m mem j byte w
-  unfolding settled
-  settled-done h = rw (yes-eq h)
+      → recorded m mem j byte (w .regs) (touched (length mem) (w .stored)) (stores mem (w .stored)) ≡ commitOrRefuse m mem j byte w
+  unfolding commitOrRefuse
+  commit-or-refuse-done h = rw (yes-eq h)
 
 -- ---- undo and clear
 
@@ -80,12 +80,12 @@ module _ (m : Machine) (mem j : List ℕ) where
   unfolding undo
   undo-some h e = rw (← passed false m mem j h (ifEq (m .depth) 0 (refused 5 m mem j) (undoLast m mem j)), no-eq e)
 
-  pub clear-refused : memoryBad (length mem) || journalBad (length j) ≡ true → refused 1 m mem j ≡ clear m mem j
+  pub clear-refused : memorySizeBad (length mem) || journalSizeBad (length j) ≡ true → refused 1 m mem j ≡ clear m mem j
   unfolding clear sizeBad
   clear-refused h = rw h
 
   pub clear-done :
-      memoryBad (length mem) || journalBad (length j) ≡ false
+      memorySizeBad (length mem) || journalSizeBad (length j) ≡ false
       → _≡_ {A = Outcome} (record { answer = 0; byte = 0; machine = machineOf (m .regs) 0 0; memory = mem; journal = j }) (clear m mem j)
   unfolding clear sizeBad
   clear-done h = rw h

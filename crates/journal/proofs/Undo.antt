@@ -8,7 +8,7 @@ use lib.ListN.{length, take, drop, length-append}
 use lib.Seq.{sets, sets-eq, length-sets, length-take-le, take-at}
 use Rattle.rules.specs.Registers.{registers}
 use Rattle.rules.specs.Memory.{Store, stores, touched}
-use Rattle.rules.specs.Journal.{recordLength, recordOf, frameBad, lastPairs, lastStart, lastRegs, pairsAt, writeBack, strays}
+use Rattle.rules.specs.Journal.{recordLength, recordOf, boundsBad, lastPairs, lastStart, lastRegs, pairsAt, writeBack, strays}
 use Rattle.rules.specs.Calls.{Outcome, machineOf, sizeBad, checked, recorded, undone, undoLast, undo}
 use Rattle.rules.specs.declared.Machine.{Machine}
 use Rattle.rules.proofs.Tests.{yes-lt, no-lt, no-eq, cases-lt}
@@ -23,7 +23,7 @@ givenBack m mem j = record { answer = 0; byte = 0; machine = m; memory = mem; jo
 
 module _
     (m : Machine) (mem j : List ℕ) (byte : ℕ) (regs : List ℕ) (ss : List Store) (lr : length (m .regs) ≡ registers)
-    (size : sizeBad mem j ≡ false) (frame : frameBad (length j) (m .depth) (m .used) ≡ false) where
+    (size : sizeBad mem j ≡ false) (frame : boundsBad (length j) (m .depth) (m .used) ≡ false) where
   abbrev ks : List ℕ
   ks = touched (length mem) ss
 
@@ -74,7 +74,7 @@ module _
     unfolding sizeBad
     size′ = rw (length-stores mem ss, length-sets j (m .used) rec) size
 
-    frame′ : frameBad (length j′) (m .depth + 1) used′ ≡ false
+    frame′ : boundsBad (length j′) (m .depth + 1) used′ ≡ false
     frame′ =
         let f = frame-good (length j) (m .depth) (m .used) frame in
         rw (length-sets j (m .used) rec) (frame-is (length j) (m .depth + 1) used′ fit (omega arith))

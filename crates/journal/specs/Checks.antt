@@ -2,17 +2,17 @@
 use Prim.Native.Nat.{ℕ}
 use mathlib.Core.Bool.{Bool, _||_}
 use Rattle.rules.specs.Tests.{pick}
-use Rattle.rules.specs.Journal.{frameBad}
+use Rattle.rules.specs.Journal.{boundsBad}
 use mathlib.Core.Path.{_≡_}
 use mathlib.Core.List.{List}
-use Rattle.rules.specs.Calls.{outcomeOf, refused, memoryBad, journalBad}
+use Rattle.rules.specs.Calls.{outcomeOf, refused, memorySizeBad, journalSizeBad}
 use Rattle.rules.specs.declared.Machine.{Machine}
 use Rattle.rules.specs.declared.Reply.{Reply}
 
 -- the first of Size, BadChannel, JournalBad that applies, by 01's number, else 0 (01, Answers by number)
 unfoldable pub firstBad : Bool → ℕ → ℕ → ℕ → ℕ → ℕ
 firstBad badChannel memory journal depth used =
-    pick (memoryBad memory || journalBad journal) 1 (pick badChannel 3 (pick (frameBad journal depth used) 4 0))
+    pick (memorySizeBad memory || journalSizeBad journal) 1 (pick badChannel 3 (pick (boundsBad journal depth used) 4 0))
 
 -- a reply that alters nothing, whatever memory and journal are (01, Answers by number)
 abbrev pub Refusal : ℕ → Machine → Reply → Type 0

@@ -12,7 +12,7 @@ ghost use Rattle.journal.specs.Checks.{Refusal, firstBad};
 
 // Whether a memory or a journal of so many words is none that a call takes.
 pub fn size_bad(memory: usize, journal: usize) -> bool
-    ensures { λ r. ⌜ r ≡ calls.memoryBad memory || calls.journalBad journal ⌝ }
+    ensures { λ r. ⌜ r ≡ calls.memorySizeBad memory || calls.journalSizeBad journal ⌝ }
 {
     if memory < 64 {
         return true;
@@ -50,7 +50,7 @@ pub fn first_bad(wrong: bool, memory: usize, journal: usize, depth: usize, used:
     if wrong {
         return 3;
     }
-    if bounds::frame_bad(journal, depth, used) {
+    if bounds::bounds_bad(journal, depth, used) {
         return 4;
     }
     0

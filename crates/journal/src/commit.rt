@@ -3,7 +3,7 @@
 use crate::stores;
 use crate::undo_parts;
 use journal_record::bounds;
-use journal_record::bounds::FRAME;
+use journal_record::bounds::EMPTY_RECORD;
 use journal_record::record;
 use journal_record::touched;
 use plan::Plan;
@@ -21,12 +21,12 @@ ghost use Rattle.plan.specs.View.{view};
 
 // Makes a plan real: its record is appended and its stores are made. Where the record does not fit, nothing is written.
 pub fn commit(m: Machine, p: Plan, byte: u8, mem: &mut [u32], journal: &mut [u32]) -> Reply
-    requires { ⌜ (p .cut ≤ p .n) × (p .n ≤ 16) × (length (now mem) ≤ 16384) × (length (now journal) ≤ 65536) × (journalRules.frameBad (length (now journal)) (m .depth) (m .used) ≡ false) ⌝ }
+    requires { ⌜ (p .cut ≤ p .n) × (p .n ≤ 16) × (length (now mem) ≤ 16384) × (length (now journal) ≤ 65536) × (journalRules.boundsBad (length (now journal)) (m .depth) (m .used) ≡ false) ⌝ }
     ensures { λ r. ⌜ outcomeOf r (now (mem .exit)) (now (journal .exit)) ≡ recorded m (now (mem .entry)) (now (journal .entry)) byte (p .regs) (touched (length (now (mem .entry))) (view p .stored)) (stores (now (mem .entry)) (view p .stored)) ⌝ }
 {
     let used = m.used;
     let depth = m.depth;
-    let o = touched::survey(p, mem.len());
+    let o = touched::outline(p, mem.len());
     let count = o.count;
     if bounds::is_full(journal.len(), used, count) {
         return bounds::refusal(m, Answer::JournalFull);
@@ -38,7 +38,7 @@ pub fn commit(m: Machine, p: Plan, byte: u8, mem: &mut [u32], journal: &mut [u32
     let machine = Machine {
         regs,
         depth: depth + 1,
-        used: used + (FRAME + 2 * count),
+        used: used + (EMPTY_RECORD + 2 * count),
     };
     Reply {
         machine,
@@ -49,14 +49,14 @@ pub fn commit(m: Machine, p: Plan, byte: u8, mem: &mut [u32], journal: &mut [u32
 
 // Takes the last record back: registers and memory are as before that call. Writes no journal word.
 pub fn undo_last(m: Machine, mem: &mut [u32], journal: &[u32]) -> Reply
-    requires { ⌜ (journalRules.frameBad (length (now journal)) (m .depth) (m .used) ≡ false) × (0 < m .depth) ⌝ }
+    requires { ⌜ (journalRules.boundsBad (length (now journal)) (m .depth) (m .used) ≡ false) × (0 < m .depth) ⌝ }
     ensures { λ r. ⌜ outcomeOf r (now (mem .exit)) (now (journal .entry)) ≡ undoLast m (now (mem .entry)) (now (journal .entry)) ⌝ }
 {
     let used = m.used;
     let depth = m.depth;
     let last = used - 1;
     let pairs = journal[last] as usize;
-    let size = FRAME + 2 * pairs;
+    let size = EMPTY_RECORD + 2 * pairs;
     if used < size {
         return bounds::refusal(m, Answer::JournalBad);
     }
@@ -65,7 +65,7 @@ pub fn undo_last(m: Machine, mem: &mut [u32], journal: &[u32]) -> Reply
         return bounds::refusal(m, Answer::JournalBad);
     }
     undo_parts::write_back(mem, journal, start, pairs);
-    let regs = undo_parts::get_regs(journal, used - FRAME);
+    let regs = undo_parts::get_regs(journal, used - EMPTY_RECORD);
     let machine = Machine {
         regs,
         depth: depth - 1,

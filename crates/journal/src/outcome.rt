@@ -8,14 +8,20 @@ ghost use mathlib.Core.Path.{_≡_};
 ghost use mathlib.Core.Bool.{false};
 ghost use Prim.Native.Nat.{_≤_};
 ghost use lib.ListN.{length};
-ghost use Rattle.rules.specs.Journal.{frameBad};
-ghost use Rattle.rules.specs.Calls.{outcomeOf, settled};
+ghost use Rattle.rules.specs.Journal.{boundsBad};
+ghost use Rattle.rules.specs.Calls.{outcomeOf, commitOrRefuse};
 ghost use Rattle.plan.specs.View.{view};
 
 // A plan that was refused answers its number; any other is committed.
-pub fn settle(m: Machine, p: Plan, byte: u8, mem: &mut [u32], journal: &mut [u32]) -> Reply
-    requires { ⌜ (p .answer ≤ 12) × (p .cut ≤ p .n) × (p .n ≤ 16) × (length (now mem) ≤ 16384) × (length (now journal) ≤ 65536) × (frameBad (length (now journal)) (m .depth) (m .used) ≡ false) ⌝ }
-    ensures { λ r. ⌜ outcomeOf r (now (mem .exit)) (now (journal .exit)) ≡ settled m (now (mem .entry)) (now (journal .entry)) byte (view p) ⌝ }
+pub fn commit_or_refuse(
+    m: Machine,
+    p: Plan,
+    byte: u8,
+    mem: &mut [u32],
+    journal: &mut [u32],
+) -> Reply
+    requires { ⌜ (p .answer ≤ 12) × (p .cut ≤ p .n) × (p .n ≤ 16) × (length (now mem) ≤ 16384) × (length (now journal) ≤ 65536) × (boundsBad (length (now journal)) (m .depth) (m .used) ≡ false) ⌝ }
+    ensures { λ r. ⌜ outcomeOf r (now (mem .exit)) (now (journal .exit)) ≡ commitOrRefuse m (now (mem .entry)) (now (journal .entry)) byte (view p) ⌝ }
 {
     if p.answer != 0 {
         return refuse(m, p.answer);

@@ -7,7 +7,7 @@ use native.Mathlib.Omega.{arith}
 use lib.Dec.{ltb}
 use borrow.Author.Tests.{lt-ltb, le-ltb, ltb-false}
 use Rattle.rules.specs.Registers.{registers}
-use Rattle.rules.specs.Journal.{recordLength, frameBad}
+use Rattle.rules.specs.Journal.{recordLength, boundsBad}
 
 same-test : (a b c d : ℕ) → (a < b → c < d) → (c < d → a < b) → ltb a b ≡ ltb c d
 same-test a b c d f g =
@@ -20,19 +20,19 @@ same-test a b c d f g =
     ]
 
 module _ (size depth used : ℕ) where
-  pub frame-long : size < used → true ≡ frameBad size depth used
-  unfolding frameBad
+  pub frame-long : size < used → true ≡ boundsBad size depth used
+  unfolding boundsBad
   frame-long h = rw (lt-ltb size used h)
 
-  pub frame-deep : used ≤ size → ltb (used / (registers + 1)) depth ≡ frameBad size depth used
-  unfolding frameBad
+  pub frame-deep : used ≤ size → ltb (used / (registers + 1)) depth ≡ boundsBad size depth used
+  unfolding boundsBad
   frame-deep h =
       rw (le-ltb size used h)
       (same-test (used / (registers + 1)) depth used (recordLength 0 * depth) (λ k. omega arith) (λ k. omega arith))
 
   -- what a frame that is not bad tells
-  pub frame-good : frameBad size depth used ≡ false → (used ≤ size) × (recordLength 0 * depth ≤ used)
-  unfolding frameBad
+  pub frame-good : boundsBad size depth used ≡ false → (used ≤ size) × (recordLength 0 * depth ≤ used)
+  unfolding boundsBad
   frame-good e =
       let f = neither (ltb size used) (ltb used (recordLength 0 * depth)) e in
       (ltb-false size used (f .0), ltb-false used (recordLength 0 * depth) (f .1))
@@ -41,8 +41,8 @@ module _ (size depth used : ℕ) where
       neither true b e = let z : _≡_ {A = ℕ} 0 1 = cc in absurd (omega arith)
       neither false b e = (refl, e)
 
-pub frame-is : (size depth used : ℕ) → used ≤ size → recordLength 0 * depth ≤ used → frameBad size depth used ≡ false
-unfolding frameBad
+pub frame-is : (size depth used : ℕ) → used ≤ size → recordLength 0 * depth ≤ used → boundsBad size depth used ≡ false
+unfolding boundsBad
 frame-is size depth used h k = rw (le-ltb size used h, le-ltb used (recordLength 0 * depth) k)
 
 pub full : (size used n : ℕ) → used ≤ size → ltb (size - used) (registers + 1 + 2 * n) ≡ ltb size (used + recordLength n)

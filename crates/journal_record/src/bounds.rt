@@ -9,16 +9,16 @@ ghost use lib.Dec.{ltb};
 ghost use Rattle.rules.specs.Journal as journalRules;
 
 // The words of a record besides its pairs.
-pub const FRAME: usize = REGISTERS + 1;
+pub const EMPTY_RECORD: usize = REGISTERS + 1;
 
 // Whether used and depth cannot be those of a journal of size words. Nothing wraps: a quotient stands for the product.
-pub fn frame_bad(size: usize, depth: usize, used: usize) -> bool
-    ensures { λ r. ⌜ r ≡ journalRules.frameBad size depth used ⌝ }
+pub fn bounds_bad(size: usize, depth: usize, used: usize) -> bool
+    ensures { λ r. ⌜ r ≡ journalRules.boundsBad size depth used ⌝ }
 {
     if size < used {
         return true;
     }
-    used / FRAME < depth
+    used / EMPTY_RECORD < depth
 }
 
 // Whether a record of n pairs does not fit after used. Nothing wraps: the room that is left stands for the sum.
@@ -26,7 +26,7 @@ pub fn is_full(size: usize, used: usize, n: usize) -> bool
     requires { ⌜ (used ≤ size) × (n ≤ 65536) ⌝ }
     ensures { λ r. ⌜ r ≡ ltb size (used + journalRules.recordLength n) ⌝ }
 {
-    size - used < FRAME + 2 * n
+    size - used < EMPTY_RECORD + 2 * n
 }
 
 // An answer that alters nothing.

@@ -11,7 +11,7 @@ use Rattle.rules.specs.Registers.{registers, withCore}
 use Rattle.rules.specs.Memory.{Store, word, touched, stores}
 use Rattle.rules.specs.Journal.{olds, recordOf}
 use Rattle.rules.specs.Work.{begin}
-use Rattle.rules.specs.Calls.{machineOf, recorded, settled}
+use Rattle.rules.specs.Calls.{machineOf, recorded, commitOrRefuse}
 use Rattle.rules.specs.declared.Machine.{Machine}
 use Rattle.rules.proofs.Tests.{yes-eq}
 use Rattle.step_fast.specs.declared.Swift.{Swift}
@@ -102,14 +102,14 @@ record-written j mem regs ks at n e =
 
 pub comes :
     (m : Machine) (mem j : List ℕ) (t : Swift)
-    → recorded m mem j 0 (withCore (t .core) (m .regs)) (touched (length mem) (storesOf t)) (stores mem (storesOf t)) ≡ settled m mem j 0 (swiftWork (m .regs) t)
-unfolding settled
+    → recorded m mem j 0 (withCore (t .core) (m .regs)) (touched (length mem) (storesOf t)) (stores mem (storesOf t)) ≡ commitOrRefuse m mem j 0 (swiftWork (m .regs) t)
+unfolding commitOrRefuse
 comes m mem j t = rw (yes-eq {a = 0} {b = 0} refl)
 
 pub none-written : (j mem regs : List ℕ) (at : ℕ) → sets j at (regs ++ (0 ∷ [])) ≡ sets j at (recordOf mem regs [])
 unfolding recordOf olds
 none-written j mem regs at = refl
 
-pub comes-regs : (m : Machine) (mem j regs : List ℕ) → recorded m mem j 0 regs [] mem ≡ settled m mem j 0 (begin regs)
-unfolding settled
+pub comes-regs : (m : Machine) (mem j regs : List ℕ) → recorded m mem j 0 regs [] mem ≡ commitOrRefuse m mem j 0 (begin regs)
+unfolding commitOrRefuse
 comes-regs m mem j regs = rw (yes-eq {a = 0} {b = 0} refl, touched-none (length mem), stores-no mem)

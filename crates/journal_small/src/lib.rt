@@ -1,6 +1,6 @@
 // The commit of a common step, whose record has no pair or one, and of a call that changes registers alone. The same words as the commit of a plan
 // would write, with less work.
-use journal_record::bounds::FRAME;
+use journal_record::bounds::EMPTY_RECORD;
 use journal_record::bounds::is_full;
 use journal_record::bounds::refusal;
 use journal_record::parts::put_regs;
@@ -18,8 +18,8 @@ ghost use lib.ListN.{length, getD};
 ghost use lib.Seq.{sets};
 ghost use Rattle.rules.specs.Registers.{registers, withCore};
 ghost use Rattle.rules.specs.Work.{begin};
-ghost use Rattle.rules.specs.Journal.{olds, frameBad};
-ghost use Rattle.rules.specs.Calls.{outcomeOf, settled};
+ghost use Rattle.rules.specs.Journal.{olds, boundsBad};
+ghost use Rattle.rules.specs.Calls.{outcomeOf, commitOrRefuse};
 ghost use Rattle.step_fast.specs.Swift.{swiftWork};
 ghost use Rattle.journal_small.specs.Count.{Counted, listed, made};
 
@@ -87,8 +87,8 @@ fn make(mem: &mut [u32], journal: &mut [u32], n: usize, i: u32, v: u32, at: usiz
 
 // A common step made real. In one piece: a machine or a reply that is handed on is copied.
 pub fn commit_common(m: Machine, t: Swift, mem: &mut [u32], journal: &mut [u32]) -> Reply
-    requires { ⌜ (length (now journal) ≤ 65536) × (frameBad (length (now journal)) (m .depth) (m .used) ≡ false) ⌝ }
-    ensures { λ r. ⌜ outcomeOf r (now (mem .exit)) (now (journal .exit)) ≡ settled m (now (mem .entry)) (now (journal .entry)) 0 (swiftWork (m .regs) t) ⌝ }
+    requires { ⌜ (length (now journal) ≤ 65536) × (boundsBad (length (now journal)) (m .depth) (m .used) ≡ false) ⌝ }
+    ensures { λ r. ⌜ outcomeOf r (now (mem .exit)) (now (journal .exit)) ≡ commitOrRefuse m (now (mem .entry)) (now (journal .entry)) 0 (swiftWork (m .regs) t) ⌝ }
 {
     let used = m.used;
     let n = count(t, mem.len());
@@ -103,7 +103,7 @@ pub fn commit_common(m: Machine, t: Swift, mem: &mut [u32], journal: &mut [u32])
     let machine = Machine {
         regs,
         depth: m.depth + 1,
-        used: used + (FRAME + 2 * n),
+        used: used + (EMPTY_RECORD + 2 * n),
     };
     Reply {
         machine,
@@ -114,8 +114,8 @@ pub fn commit_common(m: Machine, t: Swift, mem: &mut [u32], journal: &mut [u32])
 
 // A call that changes registers alone, made real: they become regs.
 pub fn commit_regs(m: Machine, regs: [u32; REGISTERS], mem: &[u32], journal: &mut [u32]) -> Reply
-    requires { ⌜ (length (now journal) ≤ 65536) × (frameBad (length (now journal)) (m .depth) (m .used) ≡ false) ⌝ }
-    ensures { λ r. ⌜ outcomeOf r (now (mem .entry)) (now (journal .exit)) ≡ settled m (now (mem .entry)) (now (journal .entry)) 0 (begin regs) ⌝ }
+    requires { ⌜ (length (now journal) ≤ 65536) × (boundsBad (length (now journal)) (m .depth) (m .used) ≡ false) ⌝ }
+    ensures { λ r. ⌜ outcomeOf r (now (mem .entry)) (now (journal .exit)) ≡ commitOrRefuse m (now (mem .entry)) (now (journal .entry)) 0 (begin regs) ⌝ }
 {
     let used = m.used;
     if is_full(journal.len(), used, 0) {
@@ -126,7 +126,7 @@ pub fn commit_regs(m: Machine, regs: [u32; REGISTERS], mem: &[u32], journal: &mu
     let machine = Machine {
         regs,
         depth: m.depth + 1,
-        used: used + FRAME,
+        used: used + EMPTY_RECORD,
     };
     Reply {
         machine,

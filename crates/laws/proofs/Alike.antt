@@ -11,7 +11,7 @@ use Rattle.rules.specs.Tests.{pick, ifLt, ifLe, ifEq}
 use Rattle.rules.specs.Words.{index, offset, selector, atByte, atWord, withByte}
 use Rattle.rules.specs.Registers.{registers}
 use Rattle.rules.specs.Memory.{Store, word, bytes}
-use Rattle.rules.specs.Work.{Work, put, raise, lower, gotoSNP, putCore, putSystem, putBoth, outside, stop, kindFetch, kindLoad, kindStore, refuseAt, refuse, append, attempted, wordAt, byteAt, access, readWord, storeWord, storeByte, rIndexWord, rIndexByte, wIndexWord, moveOutside, settleMove, transfer}
+use Rattle.rules.specs.Work.{Work, put, raise, lower, gotoSNP, putCore, putSystem, putBoth, outside, stop, kindFetch, kindLoad, kindStore, refuseAt, refuse, append, attempted, wordAt, byteAt, access, readWord, storeWord, storeByte, rIndexWord, rIndexByte, wIndexWord, moveOutside, moveOrRefuse, transfer}
 use Rattle.rules.specs.declared.Core.{Core}
 use Rattle.rules.specs.declared.System.{System}
 use Rattle.rules.specs.declared.Attempt.{Attempt}
@@ -250,7 +250,7 @@ module _ (m x : List ℕ) where
         on a b (leaves l h o) = leaves (rw (yes-lt a, yes-lt b) l) (rw (yes-lt a, yes-lt b) h) (rw (yes-lt a, yes-lt b) o)
 
     pub alike-transfer : (s d n : ℕ) {w w′ : Work} → Alike size w w′ → Alike size (transfer m s d n w) (transfer (m ++ x) s d n w′)
-    unfolding transfer settleMove
+    unfolding transfer moveOrRefuse
     alike-transfer s d n r =
         lift m (m ++ x) (λ mem. transfer mem s d n) (λ mem n′ k a t w f. fine-transfer mem s d n f) one r
       where
@@ -260,7 +260,7 @@ module _ (m x : List ℕ) where
             (λ e. rw (yes-eq e, yes-eq e) (self u))
             (λ e. rw (no-eq e, no-eq e) (go e (moves s d n)))
           where
-            go : (n ≡ 0 → ⊥) → Moves s d n → Alike size (settleMove m (moveOutside m s d n) s d n w) (settleMove (m ++ x) (moveOutside (m ++ x) s d n) s d n w)
+            go : (n ≡ 0 → ⊥) → Moves s d n → Alike size (moveOrRefuse m (moveOutside m s d n) s d n w) (moveOrRefuse (m ++ x) (moveOutside (m ++ x) s d n) s d n w)
             go e (fits h h′ p q) =
                 rw (h, h′, yes-eq {a = 0} {b = 0} refl) (alike-append (bytes (offset s) (offset d) n) (p (omega (arith, e)), q (omega (arith, e))) (self u))
             go e (leaves l h o) =

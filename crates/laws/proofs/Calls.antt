@@ -13,8 +13,8 @@ use Rattle.rules.specs.Tests.{pick, ifLt}
 use Rattle.rules.specs.Registers.{registers}
 use Rattle.rules.specs.Memory.{touched}
 use Rattle.rules.specs.Work.{Work}
-use Rattle.rules.specs.Journal.{recordLength, recordOf, frameBad, lastPairs, lastStart, lastRegs, pairsAt, writeBack, strays}
-use Rattle.rules.specs.Calls.{Outcome, refused, machineOf, sizeBad, recorded, settled, checked, step, tick, take, give, event, undone, undoLast, undo, clear, freshRegs, freshMemory, codeBad, noMachine, fresh}
+use Rattle.rules.specs.Journal.{recordLength, recordOf, boundsBad, lastPairs, lastStart, lastRegs, pairsAt, writeBack, strays}
+use Rattle.rules.specs.Calls.{Outcome, refused, machineOf, sizeBad, recorded, commitOrRefuse, checked, step, tick, take, give, event, undone, undoLast, undo, clear, freshRegs, freshMemory, codeBad, noMachine, fresh}
 use Rattle.rules.specs.declared.Machine.{Machine}
 use Rattle.rules.proofs.Tests.{on-pick, on-lt, on-eq}
 use Rattle.laws.specs.Calls.{Kept, Refusing, Unwritten}
@@ -36,8 +36,8 @@ module _ (m : Machine) (mem j : List ℕ) where
   unfolding recorded
   refusing-recorded b regs ks after = on-lt (Refusing m mem j) _ _ (refusing 12) (accepting b _ _ _)
 
-  refusing-settled : (b : ℕ) (w : Work) → Refusing m mem j (settled m mem j b w)
-  unfolding settled
+  refusing-settled : (b : ℕ) (w : Work) → Refusing m mem j (commitOrRefuse m mem j b w)
+  unfolding commitOrRefuse
   refusing-settled b w = on-eq (Refusing m mem j) _ _ (refusing-recorded b _ _ _) (refusing (w .answer))
 
   refusing-checked : (bad : Bool) (o : Outcome) → Refusing m mem j o → Refusing m mem j (checked bad m mem j o)
@@ -45,7 +45,7 @@ module _ (m : Machine) (mem j : List ℕ) where
   refusing-checked bad o r =
       on-pick (Refusing m mem j) (sizeBad mem j) (refusing 1)
       (on-pick (Refusing m mem j) bad (refusing 3)
-      (on-pick (Refusing m mem j) (frameBad (length j) (m .depth) (m .used)) (refusing 4) r))
+      (on-pick (Refusing m mem j) (boundsBad (length j) (m .depth) (m .used)) (refusing 4) r))
 
   pub refused-step : Refusing m mem j (step m mem j)
   unfolding step
@@ -110,7 +110,7 @@ module _ (m : Machine) (mem j : List ℕ) where
   unfolding undo checked
   unwritten-undo =
       on-pick (Unwritten j) (sizeBad mem j) (unwritten 1 0 m mem)
-      (on-pick (Unwritten j) (frameBad (length j) (m .depth) (m .used)) (unwritten 4 0 m mem)
+      (on-pick (Unwritten j) (boundsBad (length j) (m .depth) (m .used)) (unwritten 4 0 m mem)
       (on-eq (Unwritten j) _ _ (unwritten 5 0 m mem) unwritten-undoLast))
 
 pub unwritten-fresh : (code mem j : List ℕ) → Unwritten j (fresh code mem j)
@@ -140,8 +140,8 @@ pub length-lastRegs : (j : List ℕ) (used : ℕ) → used ≤ length j → reco
 unfolding lastRegs
 length-lastRegs j used u l = length-take-le registers (drop (used - recordLength 0) j) (simp length-drop (omega arith))
 
-frame-within : (size depth used : ℕ) → frameBad size depth used ≡ false → used ≤ size
-unfolding frameBad
+frame-within : (size depth used : ℕ) → boundsBad size depth used ≡ false → used ≤ size
+unfolding boundsBad
 frame-within size depth used e = go (ltb size used) refl e
   where
     go : (t : Bool) → ltb size used ≡ t → (t || ltb used (recordLength 0 * depth)) ≡ false → used ≤ size
@@ -152,8 +152,8 @@ module _ (m : Machine) (mem j : List ℕ) (h : length (m .regs) ≡ registers) w
   kept-refused : (n : ℕ) → n ≤ 12 → Kept mem j (refused n m mem j)
   kept-refused n q = record { count = h; memory = refl; journal = refl; known = q }
 
-  kept-settled : (b : ℕ) (w : Work) → Fine Known w → Kept mem j (settled m mem j b w)
-  unfolding settled recorded
+  kept-settled : (b : ℕ) (w : Work) → Fine Known w → Kept mem j (commitOrRefuse m mem j b w)
+  unfolding commitOrRefuse recorded
   kept-settled b w f =
       on-eq (Kept mem j) _ _
       (on-lt (Kept mem j) _ _ (kept-refused 12 (omega arith))
@@ -170,9 +170,9 @@ module _ (m : Machine) (mem j : List ℕ) (h : length (m .regs) ≡ registers) w
   unfolding checked
   kept-checked bad o k =
       on-pick (Kept mem j) (sizeBad mem j) (kept-refused 1 (omega arith))
-      (on-pick (Kept mem j) bad (kept-refused 3 (omega arith)) (go (frameBad (length j) (m .depth) (m .used)) refl))
+      (on-pick (Kept mem j) bad (kept-refused 3 (omega arith)) (go (boundsBad (length j) (m .depth) (m .used)) refl))
     where
-      go : (t : Bool) → frameBad (length j) (m .depth) (m .used) ≡ t → Kept mem j (pick t (refused 4 m mem j) o)
+      go : (t : Bool) → boundsBad (length j) (m .depth) (m .used) ≡ t → Kept mem j (pick t (refused 4 m mem j) o)
       go true e = kept-refused 4 (omega arith)
       go false e = k (frame-within (length j) (m .depth) (m .used) e)
 

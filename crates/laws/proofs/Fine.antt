@@ -7,7 +7,7 @@ use native.Mathlib.Omega.{arith}
 use lib.ListN.{length, length-set}
 use Rattle.rules.specs.Registers.{registers, withCore, withSystem}
 use Rattle.rules.specs.Memory.{Store}
-use Rattle.rules.specs.Work.{Work, begin, put, raise, lower, gotoSNP, putCore, putSystem, outside, stop, refuseAt, refuse, append, attempted, putBoth, access, storeWord, storeByte, rIndexWord, rIndexByte, wIndexWord, settleMove, transfer}
+use Rattle.rules.specs.Work.{Work, begin, put, raise, lower, gotoSNP, putCore, putSystem, outside, stop, refuseAt, refuse, append, attempted, putBoth, access, storeWord, storeByte, rIndexWord, rIndexByte, wIndexWord, moveOrRefuse, transfer}
 use Rattle.rules.specs.declared.Core.{Core}
 use Rattle.rules.specs.declared.System.{System}
 use Rattle.rules.specs.declared.Attempt.{Attempt}
@@ -115,10 +115,10 @@ module _ {P : ℕ → ℕ → ℕ → Type 0} where
   unfolding wIndexWord
   fine-wIndexWord m base n v f = fine-storeWord m _ _ f
 
-  pub fine-settleMove : (m : List ℕ) (first : ℕ × ℕ) (source destination n : ℕ) {w : Work} → Fine P w → Fine P (settleMove m first source destination n w)
-  unfolding settleMove
-  fine-settleMove m first source destination n f = on-eq (Fine P) _ _ (fine-append _ f) (fine-refuseAt _ _ _ (f .ten) f)
+  pub fine-moveOrRefuse : (m : List ℕ) (first : ℕ × ℕ) (source destination n : ℕ) {w : Work} → Fine P w → Fine P (moveOrRefuse m first source destination n w)
+  unfolding moveOrRefuse
+  fine-moveOrRefuse m first source destination n f = on-eq (Fine P) _ _ (fine-append _ f) (fine-refuseAt _ _ _ (f .ten) f)
 
   pub fine-transfer : (m : List ℕ) (source destination n : ℕ) {w : Work} → Fine P w → Fine P (transfer m source destination n w)
   unfolding transfer
-  fine-transfer m source destination n f = on-eq (Fine P) _ _ f (fine-settleMove m _ _ _ _ f)
+  fine-transfer m source destination n f = on-eq (Fine P) _ _ f (fine-moveOrRefuse m _ _ _ _ f)

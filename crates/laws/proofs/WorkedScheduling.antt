@@ -8,7 +8,7 @@ use Rattle.rules.specs.Tests.{ifLt, ifLe, ifEq}
 use Rattle.rules.specs.Core.{gotoSNPBit}
 use Rattle.rules.specs.Registers.{registers}
 use Rattle.rules.specs.Memory.{word, bytes, byteIn, setByteIn, moved, within, storing, stores}
-use Rattle.rules.specs.Work.{Work, begin, put, raise, lower, gotoSNP, refuseAt, append, wordAt, access, storeWord, rIndexWord, wIndexWord, moveOutside, settleMove, transfer}
+use Rattle.rules.specs.Work.{Work, begin, put, raise, lower, gotoSNP, refuseAt, append, wordAt, access, storeWord, rIndexWord, wIndexWord, moveOutside, moveOrRefuse, transfer}
 use Rattle.rules.specs.Scheduling.{notProcess, clearIdle, startSlice, resumed, maskStatus, unlinkFront, dequeue, activateProcess, save, saveRest, saveEreg, saveRegisters, restore, restoreRest, restoreRegisters, interrupt, runOverLow, run, startQueued, resumeOrStart, nextHigh, nextLow, nextProcess, startNextProcess, actOnSNP, saveIptr, stopp}
 use Rattle.rules.specs.Data.{popped, moveDone, stl, blockMove}
 
@@ -92,7 +92,7 @@ pub after-move :
       kind = 0;
       address = 0;
     }
-unfolding ifLt ifLe ifEq put raise lower refuseAt append wordAt access storeWord rIndexWord wIndexWord moveOutside settleMove transfer stores storing within moved byteIn setByteIn moveDone blockMove clearIdle resumed restore restoreRest restoreRegisters resumeOrStart nextHigh nextProcess startNextProcess actOnSNP
+unfolding ifLt ifLe ifEq put raise lower refuseAt append wordAt access storeWord rIndexWord wIndexWord moveOutside moveOrRefuse transfer stores storing within moved byteIn setByteIn moveDone blockMove clearIdle resumed restore restoreRest restoreRegisters resumeOrStart nextHigh nextProcess startNextProcess actOnSNP
 after-move = refl
 
 -- ---- a high process interrupts a low one whose Status has bit 3 set: seven stores, in 000's order; bits 31 and 2 to 7 of Status stay

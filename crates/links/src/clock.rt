@@ -1,7 +1,7 @@
 // The clocks (01, Links, clocks, slice): what tick does to the registers. It stores nothing and is never refused, so it needs no plan.
 use rules::REGISTERS;
 use rules::names::*;
-use words::at_byte;
+use words::wrap_add;
 ghost use mathlib.Core.Path.{_≡_};
 ghost use Rattle.rules.specs.Work.{begin};
 ghost use Rattle.rules.specs.Links as links;
@@ -22,7 +22,7 @@ fn tick_prescaler(regs: [u32; REGISTERS]) -> [u32; REGISTERS]
 {
     let mut t = regs;
     if 63 <= regs[PRESCALER_REG] {
-        let low = at_byte(regs[CLOCK_REG_LOW], 1);
+        let low = wrap_add(regs[CLOCK_REG_LOW], 1);
         t[PRESCALER_REG] = 0;
         t[CLOCK_REG_LOW] = low;
         return t;
@@ -34,7 +34,7 @@ fn tick_prescaler(regs: [u32; REGISTERS]) -> [u32; REGISTERS]
 fn tick_clocks(regs: [u32; REGISTERS]) -> [u32; REGISTERS]
     ensures { λ r. ⌜ begin r ≡ links.tickClocks (begin regs) ⌝ }
 {
-    let high = at_byte(regs[CLOCK_REG_HIGH], 1);
+    let high = wrap_add(regs[CLOCK_REG_HIGH], 1);
     let mut t = regs;
     t[CLOCK_REG_HIGH] = high;
     tick_slice(tick_prescaler(t))

@@ -8,6 +8,7 @@ use plan::raise;
 use rules::names::*;
 use words::at_byte;
 use words::with_held_byte;
+use words::wrap_add;
 ghost use mathlib.Core.Path.{_≡_};
 ghost use mathlib.Core.Bool.{true, false};
 ghost use Prim.Native.Nat.{_<_};
@@ -59,7 +60,7 @@ pub fn advance(w: Plan, c: usize) -> Plan
     let p = POINTER_REG + 3 * c;
     let k = COUNT_REG + 3 * c;
     let pointer = at_byte(w.regs[p], 1);
-    let count = at_byte(w.regs[k], MINUS_ONE);
+    let count = wrap_add(w.regs[k], MINUS_ONE);
     end_at_zero(put(put(w, p, pointer), k, count), c)
 }
 

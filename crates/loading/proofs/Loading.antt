@@ -11,7 +11,7 @@ use lib.ListN.{length, getD, set, drop-of-length-le, List·getD-eq-default}
 use lib.Seq.{sets, sets-eq}
 use borrow.Author.Tests.{lt-ltb, le-ltb, le-leb, lt-leb, eq-eqb, ne-eqb, leb-false}
 use Rattle.rules.specs.Scheduling.{memStartWord}
-use Rattle.rules.specs.Calls.{Outcome, refused, machineOf, memoryBad, journalBad, sizeBad, codeBad, codeWords, freshWord, freshMemory, freshRegs, noMachine, fresh}
+use Rattle.rules.specs.Calls.{Outcome, refused, machineOf, memorySizeBad, journalSizeBad, sizeBad, codeBad, codeWords, freshWord, freshMemory, freshRegs, noMachine, fresh}
 
 -- ---- the code's size
 
@@ -74,11 +74,11 @@ fresh-all code mem n e =
 -- ---- what fresh comes to
 
 module _ (code mem j : List ℕ) where
-  pub fresh-size : memoryBad (length mem) || journalBad (length j) ≡ true → refused 1 noMachine mem j ≡ fresh code mem j
+  pub fresh-size : memorySizeBad (length mem) || journalSizeBad (length j) ≡ true → refused 1 noMachine mem j ≡ fresh code mem j
   unfolding fresh sizeBad
   fresh-size h = rw h
 
-  module _ (h : memoryBad (length mem) || journalBad (length j) ≡ false) where
+  module _ (h : memorySizeBad (length mem) || journalSizeBad (length j) ≡ false) where
     pub fresh-code : codeBad (length mem) (length code) ≡ true → refused 2 noMachine mem j ≡ fresh code mem j
     unfolding fresh sizeBad
     fresh-code k = rw (h, k)

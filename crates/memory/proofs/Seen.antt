@@ -8,7 +8,7 @@ use lib.ListN.{length}
 use Rattle.rules.specs.Tests.{ifLt, ifEq}
 use Rattle.rules.specs.Words.{atByte, offset, index}
 use Rattle.rules.specs.Memory.{bytes, byteIn, setByteIn, moved, within, storing, stores}
-use Rattle.rules.specs.Work.{Work, begin, append, wordAt, byteAt, access, storeWord, moveOutside, settleMove, transfer}
+use Rattle.rules.specs.Work.{Work, begin, append, wordAt, byteAt, access, storeWord, moveOutside, moveOrRefuse, transfer}
 use Rattle.rules.proofs.Tests.{yes-lt, no-lt, yes-eq, no-eq, cases-lt}
 use Rattle.plan.specs.View.{moves}
 use Rattle.memory.specs.Places.{cameFrom}
@@ -32,7 +32,7 @@ module _ (m : List ℕ) (w : Work) (clear : w .answer ≡ 0) where
         outside-none m n s d (omega (arith, reach-is n (length m) s small)) (omega (arith, reach-is n (length m) d small))
 
     after-move : 0 < n → stores m (transfer m s d n w .stored) ≡ moved (stores m (w .stored)) (offset s) (offset d) n
-    unfolding transfer settleMove append
+    unfolding transfer moveOrRefuse append
     after-move h =
         let no : n ≡ 0 → ⊥ = λ e. omega arith in
         let l = stores-length (w .stored) m in
@@ -79,5 +79,5 @@ abbrev start : Work
 start = begin []
 
 run-up : wordAt memory 0x8000_0004 (transfer memory 0x8000_0000 0x8000_0001 4 (storeWord memory 0x8000_0000 0xDDCC_BBAA start)) ≡ 0x8877_66AA
-unfolding wordAt transfer settleMove moveOutside storeWord append access ifLt ifEq stores storing within moved byteIn setByteIn
+unfolding wordAt transfer moveOrRefuse moveOutside storeWord append access ifLt ifEq stores storing within moved byteIn setByteIn
 run-up = refl

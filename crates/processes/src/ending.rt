@@ -8,8 +8,8 @@ use plan::Plan;
 use plan::goto_snp;
 use plan::put;
 use rules::names::*;
-use words::at_byte;
 use words::at_word;
+use words::wrap_add;
 ghost use mathlib.Core.Path.{_≡_};
 ghost use Rattle.plan.specs.View.{view, Room, Grown};
 ghost use Rattle.rules.specs.Scheduling as scheduling;
@@ -32,7 +32,7 @@ fn end_one(w: Plan, mem: &[u32], count: u32) -> Plan
     requires { ⌜ Room 1 w ⌝ }
     ensures { λ r. ⌜ (view r ≡ scheduling.endOne (now (mem .entry)) count (view w)) × Grown 1 w r ⌝ }
 {
-    let left = at_byte(count, MINUS_ONE);
+    let left = wrap_add(count, MINUS_ONE);
     goto_snp(w_index_word(w, mem, w.regs[AREG], 1, left))
 }
 

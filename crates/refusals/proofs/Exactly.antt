@@ -55,15 +55,15 @@ module _ (m : Machine) (mem j : List ℕ) (byte : ℕ) (w : Work) where
   pairs : ℕ
   pairs = length (touched (length mem) (w .stored))
 
-  settled-first : rules.settled m mem j byte w .answer ≡ ifEq (w .answer) 0 (firstOf ((12, full pairs m j) ∷ [])) (w .answer)
+  commit-or-refuse-first : rules.settled m mem j byte w .answer ≡ ifEq (w .answer) 0 (firstOf ((12, full pairs m j) ∷ [])) (w .answer)
   unfolding rules.settled rules.recorded firstOf ifLt ifEq pairs
-  settled-first = simp answer-of
+  commit-or-refuse-first = simp answer-of
 
   -- of a record of n pairs, where nothing else refuses the call
-  settled-answer : (own : List (ℕ × Bool)) (n : ℕ) → Numbers own → w .answer ≡ firstOf own → (w .answer ≡ 0 → length (touched (length mem) (w .stored)) ≡ n)
+  commit-or-refuse-answer : (own : List (ℕ × Bool)) (n : ℕ) → Numbers own → w .answer ≡ firstOf own → (w .answer ≡ 0 → length (touched (length mem) (w .stored)) ≡ n)
       → rules.settled m mem j byte w .answer ≡ firstOf (own ++ ((12, full n m j) ∷ []))
   unfolding pairs
-  settled-answer own n h e same = settled-first ∙ told ∙ rw e (then-first own ((12, full n m j) ∷ []) h)
+  commit-or-refuse-answer own n h e same = commit-or-refuse-first ∙ told ∙ rw e (then-first own ((12, full n m j) ∷ []) h)
     where
       told : ifEq (w .answer) 0 (firstOf ((12, full pairs m j) ∷ [])) (w .answer) ≡ ifEq (w .answer) 0 (firstOf ((12, full n m j) ∷ [])) (w .answer)
       told =
@@ -86,7 +86,7 @@ module _ (m : Machine) (mem j : List ℕ) where
   unfolding rules.tick firstOf
   tick-exactly =
       checked-answer false m mem j (rules.settled m mem j 0 (links.tick (begin (m .regs)))) ((12, full 0 m j) ∷ [])
-      (settled-answer m mem j 0 (links.tick (begin (m .regs))) [] 0 tt (tick-free (m .regs)) (λ z. no-pairs _ _ (tick-stored (m .regs))))
+      (commit-or-refuse-answer m mem j 0 (links.tick (begin (m .regs))) [] 0 tt (tick-free (m .regs)) (λ z. no-pairs _ _ (tick-stored (m .regs))))
 
 -- what a link's advance keeps
 same-answer : (a : ℕ) → Work → Type 0
@@ -187,14 +187,14 @@ module _ (m : Machine) (mem j : List ℕ) where
   unfolding rules.take
   take-exactly c =
       checked-answer (rules.notOutput c) m mem j _ _
-      (settled-answer m mem j _ (links.take mem c (begin (m .regs))) ((8, takeNotReady c (m .regs)) ∷ (10, pointerOutside c (m .regs) mem) ∷ []) 0
+      (commit-or-refuse-answer m mem j _ (links.take mem c (begin (m .regs))) ((8, takeNotReady c (m .regs)) ∷ (10, pointerOutside c (m .regs) mem) ∷ []) 0
       (λ t. omega arith, (λ t. omega arith, tt)) (take-own c (m .regs) mem) (λ z. no-pairs _ _ (take-stored mem c (m .regs))))
 
   pub give-exactly : (c byte : ℕ) → rules.give c byte m mem j .answer ≡ firstOf (giveNumbers c byte m mem j)
   unfolding rules.give
   give-exactly c byte =
       checked-answer (rules.notInput c) m mem j _ _
-      (settled-answer m mem j _ (links.give mem c byte (begin (m .regs))) ((8, giveNotReady c (m .regs)) ∷ (10, pointerOutside c (m .regs) mem) ∷ []) (givePairs c (m .regs))
+      (commit-or-refuse-answer m mem j _ (links.give mem c byte (begin (m .regs))) ((8, giveNotReady c (m .regs)) ∷ (10, pointerOutside c (m .regs) mem) ∷ []) (givePairs c (m .regs))
       (λ t. omega arith, (λ t. omega arith, tt)) (give-own c byte (m .regs) mem)
       (λ z. give-pairs mem c byte (m .regs) (give-inside c (m .regs) mem (sym (give-own c byte (m .regs) mem) ∙ z))))
 
@@ -203,7 +203,7 @@ module _ (m : Machine) (mem j : List ℕ) where
   event-exactly =
       checked-answer false m mem j (rules.settled m mem j 0 (links.event (begin (m .regs))))
       ((8, giveNotReady eventChannel (m .regs)) ∷ (12, full 0 m j) ∷ [])
-      (settled-answer m mem j 0 (links.event (begin (m .regs))) ((8, giveNotReady eventChannel (m .regs)) ∷ []) 0 (λ t. omega arith, tt) (event-own (m .regs)) (λ z. no-pairs _ _ (event-stored (m .regs))))
+      (commit-or-refuse-answer m mem j 0 (links.event (begin (m .regs))) ((8, giveNotReady eventChannel (m .regs)) ∷ []) 0 (λ t. omega arith, tt) (event-own (m .regs)) (λ z. no-pairs _ _ (event-stored (m .regs))))
 
   -- ---- undo, clear, fresh
 
@@ -270,7 +270,7 @@ pub step-exactly : (m : Machine) (mem j : List ℕ) → length (m .regs) ≡ reg
 unfolding rules.step firstOf
 step-exactly m mem j h =
     checked-answer false m mem j (rules.settled m mem j 0 (steps.step mem (begin (m .regs)))) (own ++ ((12, full (stepPairs (m .regs) mem) m j) ∷ []))
-    (settled-answer m mem j 0 (steps.step mem (begin (m .regs))) own (stepPairs (m .regs) mem)
+    (commit-or-refuse-answer m mem j 0 (steps.step mem (begin (m .regs))) own (stepPairs (m .regs) mem)
     (λ t. omega arith, (λ t. omega arith, (λ t. omega arith, (λ t. omega arith, (λ t. omega arith, tt))))) (step-own (m .regs) mem h) (λ z. refl))
   where
     own : List (ℕ × Bool)

@@ -16,9 +16,9 @@ use Rattle.rules.specs.Words.{index}
 use Rattle.rules.specs.Registers.{registers, iptrReg, flagsReg, haltedFlag}
 use Rattle.rules.specs.Work.{Work, begin, outside, kindFetch}
 use Rattle.rules.specs.Memory.{touched, stores}
-use Rattle.rules.specs.Journal.{recordLength, recordOf, frameBad}
+use Rattle.rules.specs.Journal.{recordLength, recordOf, boundsBad}
 use Rattle.rules.specs.Step as steps
-use Rattle.rules.specs.Calls.{Outcome, refused, memoryBad, journalBad, sizeBad, recorded, settled, checked}
+use Rattle.rules.specs.Calls.{Outcome, refused, memorySizeBad, journalSizeBad, sizeBad, recorded, commitOrRefuse, checked}
 use Rattle.rules.specs.Calls as rules
 use Rattle.rules.specs.declared.Machine.{Machine}
 use Rattle.rules.proofs.Tests.{yes-eq, no-eq, cases-eq}
@@ -35,10 +35,10 @@ use Rattle.refusals.proofs.Own.{by-choice}
 -- ---- a memory that is not refused with 1 is small, and so is the longer one
 
 memory-small : (mem j : List ℕ) → sizeBad mem j ≡ false → length mem < 2 ^ 30
-unfolding sizeBad memoryBad
+unfolding sizeBad memorySizeBad
 memory-small mem j h = go (ltb (length mem) 64) (ltb 16384 (length mem)) refl h
   where
-    go : (a b : Bool) → ltb 16384 (length mem) ≡ b → (a || b || journalBad (length j)) ≡ false → length mem < 2 ^ 30
+    go : (a b : Bool) → ltb 16384 (length mem) ≡ b → (a || b || journalSizeBad (length j)) ≡ false → length mem < 2 ^ 30
     go true b e z = never (sym z)
     go false true e z = never (sym z)
     go false false e z = omega (arith, ltb-false 16384 (length mem) e)
@@ -60,9 +60,9 @@ accepted m mem j byte w =
       journal = sets j (m .used) (recordOf mem (m .regs) (touched (length mem) (w .stored)));
     }
 
-settled-ten : (m : Machine) (mem j : List ℕ) (byte : ℕ) (w : Work) → settled m mem j byte w .answer ≡ outside → w .answer ≡ outside
-unfolding settled recorded ifLt
-settled-ten m mem j byte w h =
+commit-or-refuse-ten : (m : Machine) (mem j : List ℕ) (byte : ℕ) (w : Work) → commitOrRefuse m mem j byte w .answer ≡ outside → w .answer ≡ outside
+unfolding commitOrRefuse recorded ifLt
+commit-or-refuse-ten m mem j byte w h =
     cases-eq (w .answer) 0
     (λ e. go (ltb (length j) (m .used + recordLength (length (touched (length mem) (w .stored))))) (rw (yes-eq e) at h))
     (λ e. rw (no-eq e) at h)
@@ -74,7 +74,7 @@ settled-ten m mem j byte w h =
 -- the checks before a call's own passed, where it answers 10
 checked-ten : (bad : Bool) (m : Machine) (mem j : List ℕ) (o : Outcome) → checked bad m mem j o .answer ≡ outside → (sizeBad mem j ≡ false) × (o .answer ≡ outside)
 unfolding checked
-checked-ten bad m mem j o h = go (sizeBad mem j) bad (frameBad (length j) (m .depth) (m .used)) refl h
+checked-ten bad m mem j o h = go (sizeBad mem j) bad (boundsBad (length j) (m .depth) (m .used)) refl h
   where
     go : (a b c : Bool) → sizeBad mem j ≡ a → pick a (refused 1 m mem j) (pick b (refused 3 m mem j) (pick c (refused 4 m mem j) o)) .answer ≡ outside
         → (sizeBad mem j ≡ false) × (o .answer ≡ outside)
@@ -94,19 +94,19 @@ pub step-witness : (m : Machine) (mem j : List ℕ) → length (m .regs) ≡ reg
     → (steps.step mem (begin (m .regs)) .answer ≡ outside) × Witness (length mem) (steps.step mem (begin (m .regs)))
 unfolding rules.step
 step-witness m mem j h e =
-    let c = checked-ten false m mem j (settled m mem j 0 (steps.step mem (begin (m .regs)))) e in
-    let a = settled-ten m mem j 0 (steps.step mem (begin (m .regs))) (c .1) in
+    let c = checked-ten false m mem j (commitOrRefuse m mem j 0 (steps.step mem (begin (m .regs)))) e in
+    let a = commit-or-refuse-ten m mem j 0 (steps.step mem (begin (m .regs))) (c .1) in
     (a, witnessed (length mem) _ _ a (step-alike mem [] (memory-small mem j (c .0)) (m .regs) h))
 
 -- ---- THE LONGER MEMORY: up to 16,384 words in all
 
 module _ (m : Machine) (mem x j : List ℕ) where
-  settled-longer : (w w′ : Work) → Alike (length mem) w w′ → (settled m mem j 0 w .answer ≡ outside → ⊥)
-      → settled m (mem ++ x) j 0 w′ ≡ appended x (settled m mem j 0 w)
-  unfolding settled recorded ifLt
-  settled-longer w w′ (alike.beyond a c t) n = absurd (n (rw (no-eq {a = w .answer} {b = 0} (λ z. omega (arith, a, z))) a))
-  settled-longer w w′ (alike.refused z o e c c′) n = rw (no-eq {a = w .answer} {b = 0} z, ← e, no-eq {a = w .answer} {b = 0} z)
-  settled-longer w w′ (alike.same e u) n =
+  commit-or-refuse-longer : (w w′ : Work) → Alike (length mem) w w′ → (commitOrRefuse m mem j 0 w .answer ≡ outside → ⊥)
+      → commitOrRefuse m (mem ++ x) j 0 w′ ≡ appended x (commitOrRefuse m mem j 0 w)
+  unfolding commitOrRefuse recorded ifLt
+  commit-or-refuse-longer w w′ (alike.beyond a c t) n = absurd (n (rw (no-eq {a = w .answer} {b = 0} (λ z. omega (arith, a, z))) a))
+  commit-or-refuse-longer w w′ (alike.refused z o e c c′) n = rw (no-eq {a = w .answer} {b = 0} z, ← e, no-eq {a = w .answer} {b = 0} z)
+  commit-or-refuse-longer w w′ (alike.same e u) n =
       rw (← e, yes-eq (u .none), yes-eq (u .none), touched-appended mem x (w .stored) (u .inside), stores-appended mem x (w .stored) (u .inside), record-appended mem x (m .regs) (w .stored))
       (go (ltb (length j) (m .used + recordLength (length (touched (length mem) (w .stored))))))
     where
@@ -115,7 +115,7 @@ module _ (m : Machine) (mem x j : List ℕ) where
       go false = refl
 
   size-same : 64 ≤ length mem → length (mem ++ x) ≤ 16384 → sizeBad (mem ++ x) j ≡ sizeBad mem j
-  unfolding sizeBad memoryBad
+  unfolding sizeBad memorySizeBad
   size-same l h =
       rw (le-ltb (length mem) 64 l, le-ltb (length (mem ++ x)) 64 (omega (arith, length-append mem x)), le-ltb 16384 (length mem) (omega (arith, length-append mem x)), le-ltb 16384 (length (mem ++ x)) h)
 
@@ -125,7 +125,7 @@ module _ (m : Machine) (mem x j : List ℕ) where
   unfolding rules.step checked
   step-longer c l h n =
       rw (size-same l h)
-      (go (sizeBad mem j) (frameBad (length j) (m .depth) (m .used)) n)
+      (go (sizeBad mem j) (boundsBad (length j) (m .depth) (m .used)) n)
     where
       w : Work
       w = steps.step mem (begin (m .regs))
@@ -133,12 +133,12 @@ module _ (m : Machine) (mem x j : List ℕ) where
       w′ : Work
       w′ = steps.step (mem ++ x) (begin (m .regs))
 
-      go : (a b : Bool) → (pick a (refused 1 m mem j) (pick b (refused 4 m mem j) (settled m mem j 0 w)) .answer ≡ outside → ⊥)
-          → pick a (refused 1 m (mem ++ x) j) (pick b (refused 4 m (mem ++ x) j) (settled m (mem ++ x) j 0 w′))
-          ≡ appended x (pick a (refused 1 m mem j) (pick b (refused 4 m mem j) (settled m mem j 0 w)))
+      go : (a b : Bool) → (pick a (refused 1 m mem j) (pick b (refused 4 m mem j) (commitOrRefuse m mem j 0 w)) .answer ≡ outside → ⊥)
+          → pick a (refused 1 m (mem ++ x) j) (pick b (refused 4 m (mem ++ x) j) (commitOrRefuse m (mem ++ x) j 0 w′))
+          ≡ appended x (pick a (refused 1 m mem j) (pick b (refused 4 m mem j) (commitOrRefuse m mem j 0 w)))
       go true b n = refl
       go false true n = refl
-      go false false n = settled-longer w w′ (step-alike mem x (omega (arith, length-append mem x)) (m .regs) c) n
+      go false false n = commit-or-refuse-longer w w′ (step-alike mem x (omega (arith, length-append mem x)) (m .regs) c) n
 
 -- ---- THE FETCH: where (c) applies and Iptr is outside memory, the answer is 10, of a fetch there
 
@@ -157,7 +157,7 @@ pub step-fetch-outside : (m : Machine) (mem j : List ℕ) → length (m .regs) �
     → (rules.step m mem j .answer ≡ outside)
     × (steps.step mem (begin (m .regs)) .kind ≡ kindFetch)
     × (steps.step mem (begin (m .regs)) .address ≡ getD (m .regs) iptrReg 0)
-unfolding rules.step checked settled
+unfolding rules.step checked commitOrRefuse
 step-fetch-outside m mem j h s f k i c o =
     let q = step-lost (m .regs) mem h o k i c .known in
     (rw (s, f, no-eq {a = steps.step mem (begin (m .regs)) .answer} {b = 0} (λ z. omega (arith, z, q .0))) (q .0), q .1, q .2)

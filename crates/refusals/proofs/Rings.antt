@@ -140,10 +140,10 @@ module _ (m : Machine) (mem j : List ℕ) (h : length (m .regs) ≡ registers) (
       first = step-exactly m mem j h ∙ rw (sized, framed, runs, busy)
 
   large : 64 ≤ length mem
-  unfolding rules.sizeBad rules.memoryBad
+  unfolding rules.sizeBad rules.memorySizeBad
   large = go (ltb (length mem) 64) refl sized
     where
-      go : (b : Bool) → ltb (length mem) 64 ≡ b → (b || ltb 16384 (length mem) || rules.journalBad (length j)) ≡ false → 64 ≤ length mem
+      go : (b : Bool) → ltb (length mem) 64 ≡ b → (b || ltb 16384 (length mem) || rules.journalSizeBad (length j)) ≡ false → 64 ≤ length mem
       go true e z = never (sym z)
       go false e z = ltb-false (length mem) 64 e
 

@@ -12,7 +12,7 @@ use Rattle.rules.specs.Memory.{touched}
 use Rattle.rules.specs.Work.{begin, byteAt}
 use Rattle.rules.specs.Timers.{timerReady}
 use Rattle.rules.specs.Channels.{requested}
-use Rattle.rules.specs.Journal.{recordLength, frameBad, lastPairs, lastStart, pairsAt, strays}
+use Rattle.rules.specs.Journal.{recordLength, boundsBad, lastPairs, lastStart, pairsAt, strays}
 use Rattle.rules.specs.Step as steps
 use Rattle.rules.specs.Calls.{sizeBad, codeBad, notOutput, notInput}
 use Rattle.rules.specs.declared.Machine.{Machine}
@@ -25,7 +25,7 @@ firstOf (e ∷ es) = pick (e .1) (e .0) (firstOf es)
 
 -- 4 JournalBad, in every call but fresh and clear: used above the journal's length, or 46 x depth above used (01, Answers by number)
 abbrev pub frame : Machine → List ℕ → Bool
-frame m j = frameBad (length j) (m .depth) (m .used)
+frame m j = boundsBad (length j) (m .depth) (m .used)
 
 -- the last record is longer than used (01, Answers by number, 4)
 abbrev pub lastTooLong : Machine → List ℕ → Bool

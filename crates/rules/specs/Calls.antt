@@ -14,7 +14,7 @@ use Rattle.rules.specs.Work.{Work, begin}
 use Rattle.rules.specs.Scheduling.{notProcess, memStart, memStartWord}
 use Rattle.rules.specs.Links as links
 use Rattle.rules.specs.Step as steps
-use Rattle.rules.specs.Journal.{recordLength, recordOf, frameBad, lastPairs, lastStart, lastRegs, pairsAt, writeBack, strays}
+use Rattle.rules.specs.Journal.{recordLength, recordOf, boundsBad, lastPairs, lastStart, lastRegs, pairsAt, writeBack, strays}
 use Rattle.rules.specs.declared.Machine.{Machine}
 use Rattle.rules.specs.declared.Reply.{Reply}
 use Rattle.rules.specs.declared.Answer.{Answer}
@@ -67,16 +67,16 @@ machineOf regs depth used = record { regs = regs; depth = depth; used = used }
 -- ---- Size: two predicates, memory and journal
 
 -- 1 Size: N is not 64 to 16,384 (01, Answers by number)
-unfoldable pub memoryBad : ℕ → Bool
-memoryBad n = ltb n 64 || ltb 16384 n
+unfoldable pub memorySizeBad : ℕ → Bool
+memorySizeBad n = ltb n 64 || ltb 16384 n
 
 -- 1 Size: the journal is over 65,536 words (01, Answers by number)
-unfoldable pub journalBad : ℕ → Bool
-journalBad n = ltb 65536 n
+unfoldable pub journalSizeBad : ℕ → Bool
+journalSizeBad n = ltb 65536 n
 
 -- 1 Size (01, Answers by number)
 unfoldable pub sizeBad : List ℕ → List ℕ → Bool
-sizeBad mem j = memoryBad (length mem) || journalBad (length j)
+sizeBad mem j = memorySizeBad (length mem) || journalSizeBad (length j)
 
 -- ---- step, tick, take, give, event
 
@@ -93,8 +93,8 @@ recorded m mem j byte regs ks after =
     })
 
 -- what worked-out work comes to: its refusal, or the accepted call, which only 12 can still refuse (DECISIONS 25, 44)
-unfoldable pub settled : Machine → List ℕ → List ℕ → ℕ → Work → Outcome
-settled m mem j byte w =
+unfoldable pub commitOrRefuse : Machine → List ℕ → List ℕ → ℕ → Work → Outcome
+commitOrRefuse m mem j byte w =
     ifEq (w .answer) 0
     (recorded m mem j byte (w .regs) (touched (length mem) (w .stored)) (stores mem (w .stored)))
     (refused (w .answer) m mem j)
@@ -104,7 +104,7 @@ unfoldable pub checked : Bool → Machine → List ℕ → List ℕ → Outcome 
 checked badChannel m mem j o =
     pick (sizeBad mem j) (refused 1 m mem j)
     (pick badChannel (refused 3 m mem j)
-    (pick (frameBad (length j) (m .depth) (m .used)) (refused 4 m mem j) o))
+    (pick (boundsBad (length j) (m .depth) (m .used)) (refused 4 m mem j) o))
 
 -- 3 BadChannel: take outside 0 to 3 (01, Answers by number)
 unfoldable pub notOutput : ℕ → Bool
@@ -116,25 +116,25 @@ notInput c = ltb c 4 || leb 8 c
 
 -- step (01, One step)
 unfoldable pub step : Machine → List ℕ → List ℕ → Outcome
-step m mem j = checked false m mem j (settled m mem j 0 (steps.step mem (begin (m .regs))))
+step m mem j = checked false m mem j (commitOrRefuse m mem j 0 (steps.step mem (begin (m .regs))))
 
 -- tick (01, Links, clocks, slice)
 unfoldable pub tick : Machine → List ℕ → List ℕ → Outcome
-tick m mem j = checked false m mem j (settled m mem j 0 (links.tick (begin (m .regs))))
+tick m mem j = checked false m mem j (commitOrRefuse m mem j 0 (links.tick (begin (m .regs))))
 
 -- take (01, Links, clocks, slice); the byte is that at the pointer
 unfoldable pub take : ℕ → Machine → List ℕ → List ℕ → Outcome
 take c m mem j =
     checked (notOutput c) m mem j
-    (settled m mem j (links.taken mem c (begin (m .regs))) (links.take mem c (begin (m .regs))))
+    (commitOrRefuse m mem j (links.taken mem c (begin (m .regs))) (links.take mem c (begin (m .regs))))
 
 -- give (01, Links, clocks, slice)
 unfoldable pub give : ℕ → ℕ → Machine → List ℕ → List ℕ → Outcome
-give c byte m mem j = checked (notInput c) m mem j (settled m mem j 0 (links.give mem c byte (begin (m .regs))))
+give c byte m mem j = checked (notInput c) m mem j (commitOrRefuse m mem j 0 (links.give mem c byte (begin (m .regs))))
 
 -- event (01, Links, clocks, slice)
 unfoldable pub event : Machine → List ℕ → List ℕ → Outcome
-event m mem j = checked false m mem j (settled m mem j 0 (links.event (begin (m .regs))))
+event m mem j = checked false m mem j (commitOrRefuse m mem j 0 (links.event (begin (m .regs))))
 
 -- ---- undo (01, The journal)
 

@@ -29,8 +29,8 @@ unfoldable pub recordOf : List ℕ → List ℕ → List ℕ → List ℕ
 recordOf m regs ks = olds m ks ++ (regs ++ (lastWord (length ks) ∷ []))
 
 -- 4 JournalBad: used above the journal's length, or 46 x depth above used (01, Answers by number; DECISIONS 35)
-unfoldable pub frameBad : ℕ → ℕ → ℕ → Bool
-frameBad size depth used = ltb size used || ltb used (recordLength 0 * depth)
+unfoldable pub boundsBad : ℕ → ℕ → ℕ → Bool
+boundsBad size depth used = ltb size used || ltb used (recordLength 0 * depth)
 
 -- ---- the last record, which ends at used
 

@@ -3,7 +3,7 @@
 use Prim.Native.Nat.{ℕ, _+_}
 use mathlib.Core.List.{List}
 use Rattle.rules.specs.Tests.{ifLt, ifLe, ifEq, ifSet}
-use Rattle.rules.specs.Words.{minus, atByte, setBits, withHeldByte}
+use Rattle.rules.specs.Words.{minus, wrapAdd, atByte, setBits, withHeldByte}
 use Rattle.rules.specs.Stack.{clocksRun}
 use Rattle.rules.specs.Registers.{clockReg, prescalerReg, sliceReg, flagsReg, pointerReg, countReg, channelReg, activeBit, enabledBit, heldBit, runRequest, readyRequest, eventChannel}
 use Rattle.rules.specs.Work.{Work, reg, put, raise, lower, notReady, refuse, readByte, storeByte}
@@ -25,7 +25,7 @@ endAtZero c w = ifEq (reg (countReg c) w) 0 (transferEnds c w) w
 unfoldable pub advance : ℕ → Work → Work
 advance c w =
     endAtZero c
-    (put (countReg c) (atByte (reg (countReg c) w) (minus 1))
+    (put (countReg c) (wrapAdd (reg (countReg c) w) (minus 1))
     (put (pointerReg c) (atByte (reg (pointerReg c) w) 1) w))
 
 -- if enabled was set it is cleared and the ready request set (01, Links, clocks, slice)
@@ -64,12 +64,12 @@ tickSlice w = ifLt (reg sliceReg w) sliceLength (put sliceReg (reg sliceReg w + 
 unfoldable pub tickPrescaler : Work → Work
 tickPrescaler w =
     ifLe 63 (reg prescalerReg w)
-    (put (clockReg 1) (atByte (reg (clockReg 1) w) 1) (put prescalerReg 0 w))
+    (put (clockReg 1) (wrapAdd (reg (clockReg 1) w) 1) (put prescalerReg 0 w))
     (put prescalerReg (reg prescalerReg w + 1) w)
 
 -- the high clock grows by one, then prescaler and slice (01, Links, clocks, slice)
 unfoldable pub tickClocks : Work → Work
-tickClocks w = tickSlice (tickPrescaler (put (clockReg 0) (atByte (reg (clockReg 0) w) 1) w))
+tickClocks w = tickSlice (tickPrescaler (put (clockReg 0) (wrapAdd (reg (clockReg 0) w) 1) w))
 
 -- tick does nothing while clocks don't run (01, Links, clocks, slice)
 unfoldable pub tick : Work → Work

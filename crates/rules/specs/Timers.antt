@@ -6,7 +6,7 @@ use mathlib.Core.List.{List}
 use lib.Bits.{bitOr}
 use lib.ListN.{length}
 use Rattle.rules.specs.Tests.{pick, ifEq, ifSet}
-use Rattle.rules.specs.Words.{atByte, atWord, later}
+use Rattle.rules.specs.Words.{wrapAdd, atWord, later}
 use Rattle.rules.specs.Registers.{areg, breg, creg, clockReg, tnextReg, flagsReg, tEnabled}
 use Rattle.rules.specs.Work.{Work, reg, put, raise, lower, wptr, priority, gotoSNP, stop, refuse, readWord, rIndexWord, wIndexWord}
 use Rattle.rules.specs.Scheduling.{notProcess, enabling, waiting, ready, timeSet, timeNotSet, noneSelected, timerBase, stateS, pointerS, tlinkS, timeS, saveIptr, run, wait}
@@ -22,7 +22,7 @@ timerReady queue w = ifEq queue 0 (timerDue 0 w) (ifEq (priority w) 0 false (tim
 
 -- Areg := Areg + 1; RestoreToRange (Areg) (000 1.11, timer input and timer alt wait)
 unfoldable pub nextTime : Work → Work
-nextTime w = put areg (atByte (reg areg w) 1) w
+nextTime w = put areg (wrapAdd (reg areg w) 1) w
 
 -- Breg := Creg (000 1.11, disable skip, enable channel and enable timer)
 unfoldable pub dropB : Work → Work

@@ -5,7 +5,7 @@ use plan::lower;
 use plan::put;
 use plan::raise;
 use rules::names::*;
-use words::at_byte;
+use words::wrap_add;
 ghost use mathlib.Core.Path.{_≡_};
 ghost use Rattle.plan.specs.View.{view, Grown};
 ghost use Rattle.rules.specs.Scheduling as scheduling;
@@ -54,6 +54,6 @@ pub fn mask_status(w: Plan) -> Plan
 pub fn add_to_c(w: Plan, n: u32) -> Plan
     ensures { λ r. ⌜ (view r ≡ scheduling.addToC n (view w)) × Grown 0 w r ⌝ }
 {
-    let c = at_byte(w.regs[CREG], n);
+    let c = wrap_add(w.regs[CREG], n);
     put(w, CREG, c)
 }

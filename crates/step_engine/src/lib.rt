@@ -1,4 +1,4 @@
-// One step (01, One step): as a plan over registers and memory, with the refusals 6, 7 and 9 to 11, and then settled.
+// One step (01, One step): as a plan over registers and memory, with the refusals 6, 7 and 9 to 11, and then commitOrRefuse.
 pub mod operations; // Which function a byte names, and which operation Oreg names (000 1.11). The tables are those of rules; that of
 
 use plan::Plan;
@@ -12,8 +12,8 @@ ghost use Prim.Native.Nat.{_<_, _≤_};
 ghost use lib.ListN.{length};
 ghost use Rattle.rules.specs.Work.{begin};
 ghost use Rattle.rules.specs.Step as step;
-ghost use Rattle.rules.specs.Journal.{frameBad};
-ghost use Rattle.rules.specs.Calls.{outcomeOf, settled};
+ghost use Rattle.rules.specs.Journal.{boundsBad};
+ghost use Rattle.rules.specs.Calls.{outcomeOf, commitOrRefuse};
 ghost use Rattle.plan.specs.View.{view, Room, Grown, Ended};
 
 // Iptr grows by one, and Oreg takes the nibble in.
@@ -126,12 +126,12 @@ pub fn step(regs: [u32; REGISTERS], mem: &[u32]) -> Plan
     plan::refuse(plan::begin(regs), HALTED)
 }
 
-// The step as a call, after its checks: worked out, then settled.
+// The step as a call, after its checks: worked out, then commitOrRefuse.
 pub fn planned(m: Machine, mem: &mut [u32], journal: &mut [u32]) -> Reply
-    requires { ⌜ (length (now mem) ≤ 16384) × (length (now journal) ≤ 65536) × (frameBad (length (now journal)) (m .depth) (m .used) ≡ false) ⌝ }
-    ensures { λ r. ⌜ outcomeOf r (now (mem .exit)) (now (journal .exit)) ≡ settled m (now (mem .entry)) (now (journal .entry)) 0 (step.step (now (mem .entry)) (begin (m .regs))) ⌝ }
+    requires { ⌜ (length (now mem) ≤ 16384) × (length (now journal) ≤ 65536) × (boundsBad (length (now journal)) (m .depth) (m .used) ≡ false) ⌝ }
+    ensures { λ r. ⌜ outcomeOf r (now (mem .exit)) (now (journal .exit)) ≡ commitOrRefuse m (now (mem .entry)) (now (journal .entry)) 0 (step.step (now (mem .entry)) (begin (m .regs))) ⌝ }
 {
     let regs = m.regs;
     let p = step(regs, mem);
-    journal::outcome::settle(m, p, 0, mem, journal)
+    journal::outcome::commit_or_refuse(m, p, 0, mem, journal)
 }

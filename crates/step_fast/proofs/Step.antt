@@ -23,7 +23,7 @@ use Rattle.rules.specs.Operations as tables
 use Rattle.rules.specs.Step as steps
 use Rattle.rules.proofs.Tests.{yes-lt, no-lt, yes-le, no-le, yes-eq, no-eq, no, by-bool, cases-lt, cases-eq}
 use Rattle.rules.specs.declared.Core.{Core}
-use Rattle.step_pending.specs.Quiet as quiet
+use Rattle.step_pending.specs.NothingPending as pending
 use Rattle.step_fast.specs.declared.Swift.{Swift}
 use Rattle.step_fast.specs.Swift as swift
 
@@ -140,7 +140,7 @@ module _ (m rest : List ℕ) where
 
   -- jump
   j-good : (s₀ s : Core) → Good 0x0 s (swift.j (listed s₀ rest) s)
-  unfolding swift.j quiet.slices steps.execute tables.function tables.functions scheduling.j scheduling.timeSlice scheduling.sliceIfRunning scheduling.sliceIfLong put
+  unfolding swift.j pending.sliceEnds steps.execute tables.function tables.functions scheduling.j scheduling.timeSlice scheduling.sliceIfRunning scheduling.sliceIfLong put
   j-good s₀ s d clear =
       cases-eq (priorityOf (s .wdesc)) 0
       (λ h. rw (yes-eq h, yes-eq h) (finish m (s .status) _ refl clear))
@@ -196,12 +196,12 @@ module _ (m rest : List ℕ) where
 
 -- ---- what may come before an instruction
 
-calm-none : (r : List ℕ) (n c : ℕ) → quiet.calm c n r ≡ true → requestFrom c n (begin r) ≡ linkChans
-unfolding quiet.calm requestFrom
-calm-none r zero c h = refl
-calm-none r (suc n) c h =
+no-request-none : (r : List ℕ) (n c : ℕ) → pending.noRequest c n r ≡ true → requestFrom c n (begin r) ≡ linkChans
+unfolding pending.noRequest requestFrom
+no-request-none r zero c h = refl
+no-request-none r (suc n) c h =
     cases-eq (bitAnd (getD r (channelReg c) 0) (runRequest + readyRequest)) 0
-    (λ e. rw (yes-eq e) (calm-none r n (suc c) (rw (yes-eq e) at h)))
+    (λ e. rw (yes-eq e) (no-request-none r n (suc c) (rw (yes-eq e) at h)))
     (λ e. never (rw (no-eq e) at h))
 
 not-not : (b : Bool) → not b ≡ true → b ≡ false
@@ -209,72 +209,72 @@ not-not true h = never h
 not-not false h = refl
 
 module _ (m r : List ℕ) where
-  first-ready : quiet.due 0 r ≡ false → timerReady 0 (begin r) ≡ false
-  unfolding quiet.due timerReady timerDue
+  first-ready : pending.due 0 r ≡ false → timerReady 0 (begin r) ≡ false
+  unfolding pending.due timerReady timerDue
   first-ready h = rw (yes-eq {a = 0} {b = 0} refl) h
 
-  second-ready : quiet.due 1 r ≡ false → timerReady 1 (begin r) ≡ false
-  unfolding quiet.due timerReady timerDue
+  second-ready : pending.due 1 r ≡ false → timerReady 1 (begin r) ≡ false
+  unfolding pending.due timerReady timerDue
   second-ready h =
       let one : _≡_ {A = ℕ} 1 0 → ⊥ = omega arith in
       rw (no-eq one)
       (cases-eq (priorityOf (getD r 1 0)) 0 (λ e. rw (yes-eq e)) (λ e. rw (no-eq e) h))
 
   -- between instructions, with no request and no timer
-  asked-nothing : quiet.calm 0 linkChans r ≡ true → quiet.due 0 r ≡ false → quiet.due 1 r ≡ false
+  asked-nothing : pending.noRequest 0 linkChans r ≡ true → pending.due 0 r ≡ false → pending.due 1 r ≡ false
       → steps.channelsFirst m (begin r) ≡ steps.instructionUnlessIdle m (begin r)
   unfolding steps.channelsFirst steps.timersFirst requested
   asked-nothing c a b =
-      let nine : linkChans ≤ requestFrom 0 linkChans (begin r) = omega (arith, calm-none r linkChans 0 c) in
+      let nine : linkChans ≤ requestFrom 0 linkChans (begin r) = omega (arith, no-request-none r linkChans 0 c) in
       rw (no-lt nine, first-ready a, second-ready b)
 
-  unasked-steps : quiet.unasked r ≡ true → steps.channelsFirst m (begin r) ≡ steps.instructionUnlessIdle m (begin r)
-  unfolding quiet.unasked
-  unasked-steps h =
-      by-bool (quiet.calm 0 linkChans r)
-      (λ c. by-bool (quiet.due 0 r)
+  nothing-to-serve-steps : pending.nothingToServe r ≡ true → steps.channelsFirst m (begin r) ≡ steps.instructionUnlessIdle m (begin r)
+  unfolding pending.nothingToServe
+  nothing-to-serve-steps h =
+      by-bool (pending.noRequest 0 linkChans r)
+      (λ c. by-bool (pending.due 0 r)
       (λ a. never (rw (c, a) at h))
-      (λ a. asked-nothing c a (not-not (quiet.due 1 r) (rw (c, a) at h))))
+      (λ a. asked-nothing c a (not-not (pending.due 1 r) (rw (c, a) at h))))
       (λ c. never (rw c at h))
 
-  -- a quiet machine fetches
-  pub record Quiet : Type 0 where
+  -- a nothingPending machine fetches
+  pub record NothingPending : Type 0 where
     pub awake : bitAnd (getD r flagsReg 0) haltedFlag ≡ 0
     pub busy : bitAnd (getD r flagsReg 0) idleFlag ≡ 0
     pub clear : bitAnd (getD r statusReg 0) gotoSNPBit ≡ 0
     pub first : steps.choose m (begin r) ≡ steps.instructionUnlessIdle m (begin r)
 
-  quiet-first : ifEq (getD r oreg 0) 0 (quiet.unasked r) true ≡ true → steps.choose m (begin r) ≡ steps.instructionUnlessIdle m (begin r)
+  nothing-pending-first : ifEq (getD r oreg 0) 0 (pending.nothingToServe r) true ≡ true → steps.choose m (begin r) ≡ steps.instructionUnlessIdle m (begin r)
   unfolding steps.choose
-  quiet-first h =
+  nothing-pending-first h =
       cases-eq (getD r oreg 0) 0
-      (λ e. rw (yes-eq e) (unasked-steps (rw (yes-eq e) at h)))
+      (λ e. rw (yes-eq e) (nothing-to-serve-steps (rw (yes-eq e) at h)))
       (λ e. rw (no-eq e))
 
-  quiet-told : quiet.quiet r ≡ true → Quiet
-  unfolding quiet.quiet
-  quiet-told h =
+  nothing-pending-told : pending.nothingPending r ≡ true → NothingPending
+  unfolding pending.nothingPending
+  nothing-pending-told h =
       cases-eq (bitAnd (getD r flagsReg 0) haltedFlag) 0
       (λ a. cases-eq (bitAnd (getD r flagsReg 0) idleFlag) 0
       (λ b. cases-eq (bitAnd (getD r statusReg 0) gotoSNPBit) 0
-      (λ c. record { awake = a; busy = b; clear = c; first = quiet-first (rw (yes-eq a, yes-eq b, yes-eq c) at h) })
+      (λ c. record { awake = a; busy = b; clear = c; first = nothing-pending-first (rw (yes-eq a, yes-eq b, yes-eq c) at h) })
       (λ c. never (rw (yes-eq a, yes-eq b, no-eq c) at h)))
       (λ b. never (rw (yes-eq a, no-eq b) at h)))
       (λ a. never (rw (no-eq a) at h))
 
-  quiet-step : Quiet → steps.step m (begin r) ≡ steps.haltOnError (getD r statusReg 0) (steps.instruction m (begin r))
+  nothing-pending-step : NothingPending → steps.step m (begin r) ≡ steps.haltOnError (getD r statusReg 0) (steps.instruction m (begin r))
   unfolding steps.step steps.instructionUnlessIdle
-  quiet-step q = rw (yes-eq (q .awake), q .first, yes-eq (q .busy))
+  nothing-pending-step q = rw (yes-eq (q .awake), q .first, yes-eq (q .busy))
 
 -- THE LAW: a common step is the step of rules
 listed-step : (m : List ℕ) (s : Core) (rest : List ℕ) → swift.swift m (listed s rest) .done ≡ true
     → steps.step m (begin (listed s rest)) ≡ swift.swiftWork (listed s rest) (swift.swift m (listed s rest))
 unfolding swift.swift coreOf withCore
 listed-step m s rest d =
-    by-bool (quiet.quiet (listed s rest))
+    by-bool (pending.nothingPending (listed s rest))
     (λ h.
-    let q = quiet-told m (listed s rest) h in
-    rw (h, quiet-step m (listed s rest) q) (fetch-good m rest s (rw h at d) (q .clear)))
+    let q = nothing-pending-told m (listed s rest) h in
+    rw (h, nothing-pending-step m (listed s rest) q) (fetch-good m rest s (rw h at d) (q .clear)))
     (λ h. never (rw h at d))
 
 pub swift-step : (m r : List ℕ) → 7 ≤ length r → swift.swift m r .done ≡ true

@@ -12,7 +12,7 @@ use Rattle.rules.specs.Registers.{coreOf, withCore}
 use Rattle.rules.specs.Memory.{Store, word}
 use Rattle.rules.specs.Work.{Work}
 use Rattle.rules.specs.declared.Core.{Core}
-use Rattle.step_pending.specs.Quiet.{slices, quiet}
+use Rattle.step_pending.specs.NothingPending.{sliceEnds, nothingPending}
 use Rattle.step_fast.specs.declared.Swift.{Swift}
 
 -- left to the engine (DECISIONS 54)
@@ -69,7 +69,7 @@ module _ (m : List ℕ) where
 
 -- jump (000 1.11, j); where a slice ends it is left to the engine (DECISIONS 54)
 unfoldable pub j : List ℕ → Core → Swift
-j r s = pick (slices s r) cold (plain (withIptr (atByte (s .iptr) (s .oreg)) s))
+j r s = pick (sliceEnds s r) cold (plain (withIptr (atByte (s .iptr) (s .oreg)) s))
 
 -- ---- what works on the evaluation stack alone
 
@@ -168,7 +168,7 @@ fetch m r s =
 
 -- a common step, or left to the engine (01, One step; DECISIONS 54)
 unfoldable pub swift : List ℕ → List ℕ → Swift
-swift m r = pick (quiet r) (fetch m r (coreOf r)) cold
+swift m r = pick (nothingPending r) (fetch m r (coreOf r)) cold
 
 -- the work that a common step stands for: its registers, and its store if it has one (DECISIONS 44, 54)
 abbrev pub swiftWork : List ℕ → Swift → Work

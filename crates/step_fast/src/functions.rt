@@ -124,7 +124,7 @@ fn stnl(mem: &[u32], s: Core) -> Swift
 fn j(regs: [u32; REGISTERS], s: Core) -> Swift
     ensures { λ r. ⌜ r ≡ swift.j regs s ⌝ }
 {
-    if pending::slices(regs, s) {
+    if pending::slice_ends(regs, s) {
         return cold();
     }
     let mut t = s;

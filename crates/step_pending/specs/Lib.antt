@@ -1,2 +1,2 @@
-pub mod Quiet
+pub mod NothingPending
 pub mod Timer

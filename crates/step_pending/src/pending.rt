@@ -5,14 +5,14 @@ use rules::names::*;
 ghost use mathlib.Core.Path.{_≡_};
 ghost use Prim.Native.Nat.{_<_};
 ghost use Rattle.rules.specs.Registers.{tEnabled};
-ghost use Rattle.step_pending.specs.Quiet as quiet;
+ghost use Rattle.step_pending.specs.NothingPending as pending;
 
 // A run request or a ready request.
 const REQUESTS: u32 = 24;
 
 // No channel has a request.
-fn calm(regs: [u32; REGISTERS]) -> bool
-    ensures { λ r. ⌜ r ≡ quiet.calm 0 9 regs ⌝ }
+fn no_request(regs: [u32; REGISTERS]) -> bool
+    ensures { λ r. ⌜ r ≡ pending.noRequest 0 9 regs ⌝ }
 {
     let mut c = 0;
     while c < 9 {
@@ -28,7 +28,7 @@ fn calm(regs: [u32; REGISTERS]) -> bool
 // A timer is enabled and its time has come.
 fn due(regs: [u32; REGISTERS], queue: usize, mask: u32) -> bool
     requires { ⌜ (queue < 2) × (mask ≡ tEnabled queue) ⌝ }
-    ensures { λ r. ⌜ r ≡ quiet.due queue regs ⌝ }
+    ensures { λ r. ⌜ r ≡ pending.due queue regs ⌝ }
 {
     if regs[FLAGS_REG] & mask == 0 {
         return false;
@@ -37,10 +37,10 @@ fn due(regs: [u32; REGISTERS], queue: usize, mask: u32) -> bool
 }
 
 // Between instructions: no request, no timer.
-fn unasked(regs: [u32; REGISTERS]) -> bool
-    ensures { λ r. ⌜ r ≡ quiet.unasked regs ⌝ }
+fn nothing_to_serve(regs: [u32; REGISTERS]) -> bool
+    ensures { λ r. ⌜ r ≡ pending.nothingToServe regs ⌝ }
 {
-    if calm(regs) {
+    if no_request(regs) {
         if due(regs, 0, 2) {
             return false;
         }
@@ -50,14 +50,14 @@ fn unasked(regs: [u32; REGISTERS]) -> bool
 }
 
 // Not halted, not idle, no process to be started; and between instructions unasked.
-pub fn quiet(regs: [u32; REGISTERS]) -> bool
-    ensures { λ r. ⌜ r ≡ quiet.quiet regs ⌝ }
+pub fn nothing_pending(regs: [u32; REGISTERS]) -> bool
+    ensures { λ r. ⌜ r ≡ pending.nothingPending regs ⌝ }
 {
     if regs[FLAGS_REG] & HALTED_FLAG == 0 {
         if regs[FLAGS_REG] & IDLE_FLAG == 0 {
             if regs[STATUS_REG] & GOTO_SNP_BIT == 0 {
                 if regs[OREG] == 0 {
-                    return unasked(regs);
+                    return nothing_to_serve(regs);
                 }
                 return true;
             }
@@ -69,8 +69,8 @@ pub fn quiet(regs: [u32; REGISTERS]) -> bool
 }
 
 // A slice ends at a jump: the process is low, the clocks run, and the slice is long.
-pub fn slices(regs: [u32; REGISTERS], s: Core) -> bool
-    ensures { λ r. ⌜ r ≡ quiet.slices s regs ⌝ }
+pub fn slice_ends(regs: [u32; REGISTERS], s: Core) -> bool
+    ensures { λ r. ⌜ r ≡ pending.sliceEnds s regs ⌝ }
 {
     if s.wdesc & 1 == 0 {
         return false;

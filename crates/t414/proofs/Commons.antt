@@ -8,9 +8,9 @@ use lib.ListN.{length}
 use Rattle.rules.specs.Registers.{registers, coreOf}
 use Rattle.rules.specs.Work.{begin}
 use Rattle.rules.specs.Step as steps
-use Rattle.rules.specs.Calls.{settled}
+use Rattle.rules.specs.Calls.{commitOrRefuse}
 use Rattle.rules.specs.declared.Machine.{Machine}
-use Rattle.step_pending.specs.Quiet.{quiet}
+use Rattle.step_pending.specs.NothingPending.{nothingPending}
 use Rattle.step_fast.specs.declared.Swift.{Swift}
 use Rattle.step_fast.specs.Swift as swift
 use Rattle.step_fast.proofs.Step.{swift-step}
@@ -18,10 +18,10 @@ use Rattle.step_fast.proofs.Step.{swift-step}
 pub common-step-is :
     (m : Machine) (mem j : List ℕ) (t : Swift)
     → length (m .regs) ≡ registers
-    → true ≡ quiet (m .regs)
+    → true ≡ nothingPending (m .regs)
     → t ≡ swift.fetch mem (m .regs) (coreOf (m .regs))
     → t .done ≡ true
-    → settled m mem j 0 (swift.swiftWork (m .regs) t) ≡ settled m mem j 0 (steps.step mem (begin (m .regs)))
+    → commitOrRefuse m mem j 0 (swift.swiftWork (m .regs) t) ≡ commitOrRefuse m mem j 0 (steps.step mem (begin (m .regs)))
 unfolding swift.swift
 common-step-is m mem j t l k e d =
     let s : t ≡ swift.swift mem (m .regs) = rw (← k) e in

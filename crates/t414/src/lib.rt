@@ -35,7 +35,7 @@ pub fn step(m: Machine, mem: &mut [u32], journal: &mut [u32]) -> Reply
         return journal::checks::refuse(m, number);
     }
     let regs = m.regs;
-    if step_pending::pending::quiet(regs) {
+    if step_pending::pending::nothing_pending(regs) {
         let t = step_fast::common_step(mem, regs);
         let common = t.done;
         if common {
@@ -78,7 +78,7 @@ pub fn take(m: Machine, mem: &mut [u32], journal: &mut [u32], channel: u32) -> R
     let w = plan::begin(regs);
     let byte = links::link_calls::taken(w, mem, c);
     let p = links::link_calls::take(w, mem, c);
-    journal::outcome::settle(m, p, byte as u8, mem, journal)
+    journal::outcome::commit_or_refuse(m, p, byte as u8, mem, journal)
 }
 
 // A byte is given to an input link.
@@ -97,7 +97,7 @@ pub fn give(m: Machine, mem: &mut [u32], journal: &mut [u32], channel: u32, byte
     }
     let regs = m.regs;
     let p = links::link_calls::give(plan::begin(regs), mem, channel as usize, byte as u32);
-    journal::outcome::settle(m, p, 0, mem, journal)
+    journal::outcome::commit_or_refuse(m, p, 0, mem, journal)
 }
 
 // The event pin is raised.
@@ -110,7 +110,7 @@ pub fn event(m: Machine, mem: &mut [u32], journal: &mut [u32]) -> Reply
     }
     let regs = m.regs;
     let p = links::link_calls::event(plan::begin(regs));
-    journal::outcome::settle(m, p, 0, mem, journal)
+    journal::outcome::commit_or_refuse(m, p, 0, mem, journal)
 }
 
 // The last accepted call is taken back.

@@ -4,9 +4,9 @@ use plan::Plan;
 use plan::put;
 use plan::raise;
 use rules::names::*;
-use words::at_byte;
 use words::at_word;
 use words::later;
+use words::wrap_add;
 ghost use mathlib.Core.Path.{_≡_};
 ghost use Prim.Native.Nat.{_<_};
 ghost use Rattle.rules.specs.Registers as registers;
@@ -60,7 +60,7 @@ pub fn timer_ready(w: Plan, queue: usize) -> bool
 pub fn next_time(w: Plan) -> Plan
     ensures { λ r. ⌜ (view r ≡ timers.nextTime (view w)) × Grown 0 w r ⌝ }
 {
-    put(w, AREG, at_byte(w.regs[AREG], 1))
+    put(w, AREG, wrap_add(w.regs[AREG], 1))
 }
 
 // The time of a process becomes the next time of its queue.

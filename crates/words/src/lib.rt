@@ -4,6 +4,13 @@ ghost use Prim.Native.Nat.{_<_};
 ghost use Rattle.rules.specs.Words as words;
 ghost use Rattle.rules.specs.Core as core;
 
+// Adds two words, wrapping: clocks, counts, times.
+pub fn wrap_add(a: u32, b: u32) -> u32
+    ensures { λ r. ⌜ r ≡ words.wrapAdd a b ⌝ }
+{
+    std::num::wrapping_add_u32(a, b)
+}
+
 // AtByte: the address n bytes on; addresses wrap.
 pub fn at_byte(base: u32, n: u32) -> u32
     ensures { λ r. ⌜ r ≡ words.atByte base n ⌝ }

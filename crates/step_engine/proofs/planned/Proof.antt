@@ -10,8 +10,8 @@ use Rattle.step_engine.proofs.planned.Tie as tie
 long : (c : tie.Start) → length (c .args .m .regs) ≡ registers
 long c = search needs
 
-settle-requires : tie.Need-settle-requires
-settle-requires c κs =
+commit-or-refuse-requires : tie.Need-commit-or-refuse-requires
+commit-or-refuse-requires c κs =
     let v = c .before .before in
     let S = v .before .before .before .before .before in
     let p = v .step .result in
@@ -20,7 +20,7 @@ settle-requires c κs =
 returns : tie.Need-returns
 returns c =
     let g = c .before .before .before .before in
-    rw (g .before .before .before .step .ensures .0) at (g .settle .ensures)
+    rw (g .before .before .before .step .ensures .0) at (g .commit-or-refuse .ensures)
 
 pub planned-spec : {M : Type 1} → statement M
-planned-spec = tie.close (tie.spec (λ c κs. search needs) settle-requires (λ c. search needs) (λ c. search needs) returns)
+planned-spec = tie.close (tie.spec (λ c κs. search needs) commit-or-refuse-requires (λ c. search needs) (λ c. search needs) returns)

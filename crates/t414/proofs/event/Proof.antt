@@ -28,8 +28,8 @@ returns c =
     let a = f .before .before .before .args in
     c .refuse .ensures (a .mem .now) (a .journal .now) ∙ stopped false (a .m) (a .mem .now) (a .journal .now) _ (f .first-bad .result) (f .first-bad .ensures) (i .if1 .taken)
 
-settle-requires : tie.Need-settle-requires
-settle-requires c κs =
+commit-or-refuse-requires : tie.Need-commit-or-refuse-requires
+commit-or-refuse-requires c κs =
     let v = c .before .before in
     let b = v .before in
     let i = b .before .before in
@@ -49,7 +49,7 @@ returns-2 c =
     let i = b .before .before in
     let f = i .before in
     let a = f .before .before .before .args in
-    (rw (v .event .ensures .0, b .begin .ensures .0) at (s .settle .ensures)) ∙ passed false (a .m) (a .mem .now) (a .journal .now) (sym (f .first-bad .ensures) ∙ i .if1 .left) _
+    (rw (v .event .ensures .0, b .begin .ensures .0) at (s .commit-or-refuse .ensures)) ∙ passed false (a .m) (a .mem .now) (a .journal .now) (sym (f .first-bad .ensures) ∙ i .if1 .left) _
 
 pub event-spec : {M : Type 1} → statement M
 event-spec =
@@ -60,7 +60,7 @@ event-spec =
     returns
     (λ c κs. search needs)
     (λ c κs. search needs)
-    settle-requires
+    commit-or-refuse-requires
     (λ c. search needs)
     (λ c. search needs)
     returns-2)

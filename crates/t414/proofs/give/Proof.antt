@@ -39,8 +39,8 @@ give-requires c κs =
     let g = input-good (a .channel) (sym (n .not-input .ensures) ∙ channel-good (n .not-input .result) (a .m) (a .mem .now) (a .journal .now) (sym (f .first-bad .ensures) ∙ i .if1 .left)) in
     (omega (arith, g), search needs, (omega (arith, b .begin .ensures), omega (arith, b .begin .ensures)))
 
-settle-requires : tie.Need-settle-requires
-settle-requires c κs =
+commit-or-refuse-requires : tie.Need-commit-or-refuse-requires
+commit-or-refuse-requires c κs =
     let v = c .before .before in
     let b = v .before .before in
     let i = b .before .before in
@@ -62,7 +62,7 @@ returns-2 c =
     let f = i .before in
     let n = f .before in
     let a = n .before .before .before .args in
-    rw (← n .not-input .ensures) ((rw (v .give .ensures .0, b .begin .ensures .0) at (s .settle .ensures)) ∙ passed (n .not-input .result) (a .m) (a .mem .now) (a .journal .now) (sym (f .first-bad .ensures) ∙ i .if1 .left) _)
+    rw (← n .not-input .ensures) ((rw (v .give .ensures .0, b .begin .ensures .0) at (s .commit-or-refuse .ensures)) ∙ passed (n .not-input .result) (a .m) (a .mem .now) (a .journal .now) (sym (f .first-bad .ensures) ∙ i .if1 .left) _)
 
 pub give-spec : {M : Type 1} → statement M
 give-spec =
@@ -74,7 +74,7 @@ give-spec =
     returns
     (λ c κs. search needs)
     give-requires
-    settle-requires
+    commit-or-refuse-requires
     (λ c. search needs)
     (λ c. search needs)
     returns-2)

@@ -46,7 +46,7 @@ returns-2 c =
     let f = i .before in
     let S = f .before .before .before in
     let a = S .args in
-    let Q = sym (q .if2 .taken) ∙ q .before .quiet .ensures in
+    let Q = sym (q .if2 .taken) ∙ q .before .nothing-pending .ensures in
     g .commit-common .ensures
     ∙ common-step-is (a .m) (a .mem .now) (a .journal .now) (s .common-step .result) (long S) Q (s .common-step .ensures) (k .if3 .taken)
     ∙ passed false (a .m) (a .mem .now) (a .journal .now) (sym (f .first-bad .ensures) ∙ i .if1 .left) _

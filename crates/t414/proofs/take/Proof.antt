@@ -51,8 +51,8 @@ take-requires c κs =
     let g = output-good (a .channel) (sym (n .not-output .ensures) ∙ channel-good (n .not-output .result) (a .m) (a .mem .now) (a .journal .now) (sym (f .first-bad .ensures) ∙ i .if1 .left)) in
     (omega (arith, g), (omega (arith, b .begin .ensures), omega (arith, b .begin .ensures)))
 
-settle-requires : tie.Need-settle-requires
-settle-requires c κs =
+commit-or-refuse-requires : tie.Need-commit-or-refuse-requires
+commit-or-refuse-requires c κs =
     let v = c .before .before in
     let b = v .before .before .before .before in
     let i = b .before .before in
@@ -75,7 +75,7 @@ returns-2 c =
     let f = i .before in
     let n = f .before in
     let a = n .before .before .before .args in
-    rw (← n .not-output .ensures) ((rw (v .take .ensures .0, t .taken .ensures .0, b .begin .ensures .0) at (s .settle .ensures)) ∙ passed (n .not-output .result) (a .m) (a .mem .now) (a .journal .now) (sym (f .first-bad .ensures) ∙ i .if1 .left) _)
+    rw (← n .not-output .ensures) ((rw (v .take .ensures .0, t .taken .ensures .0, b .begin .ensures .0) at (s .commit-or-refuse .ensures)) ∙ passed (n .not-output .result) (a .m) (a .mem .now) (a .journal .now) (sym (f .first-bad .ensures) ∙ i .if1 .left) _)
 
 pub take-spec : {M : Type 1} → statement M
 take-spec =
@@ -89,7 +89,7 @@ take-spec =
     taken-requires
     take-requires
     (λ c. search needs)
-    settle-requires
+    commit-or-refuse-requires
     (λ c. search needs)
     (λ c. search needs)
     returns-2)

@@ -10,7 +10,7 @@ use Rattle.core_arith.proofs.long.lshl.Tie as tie
 
 returns : tie.Need-returns
 unfolding lshl
-returns c = rw (yes-lt (c .before .if1 .taken)) (c .halts .ensures)
+returns c = rw (yes-lt (c .before .if1 .taken)) (c .stopped .ensures)
 
 returns-2 : tie.Need-returns-2
 unfolding lshl
@@ -18,13 +18,13 @@ returns-2 c =
     let s = c .before .before .before .before .before .before .args .s in
     let e : double (s .c) (s .b) * 2 ^ s .a % 2 ^ 32 ≡ 0 = rw (c .before .before .if2 .taken) (omega arith) in
     let f : double (s .c) (s .b) * 2 ^ s .a / 2 ^ 32 % 2 ^ 32 ≡ 0 = rw (c .before .before .if2 .taken) (omega arith) in
-    rw (no-lt (c .before .before .before .before .if1 .left), e, f, c .goes .ensures, c .before .split .ensures)
+    rw (no-lt (c .before .before .before .before .if1 .left), e, f, c .completed .ensures, c .before .split .ensures)
 
 returns-3 : tie.Need-returns-3
 unfolding lshl
 returns-3 c =
     let x = c .before .before .before .before .before .double .result * 2 ^ c .before .before .before .before .before .before .before .before .before .before .args .s .a in
-    rw (no-lt (c .before .before .before .before .before .before .before .before .if1 .left), ← c .before .before .before .before .before .double .ensures, low-part x, high-part x, c .goes2 .ensures, c .before .split2 .ensures, c .before .before .before .low-word .ensures, c .before .before .high-word .ensures)
+    rw (no-lt (c .before .before .before .before .before .before .before .before .if1 .left), ← c .before .before .before .before .before .double .ensures, low-part x, high-part x, c .completed2 .ensures, c .before .split2 .ensures, c .before .before .before .low-word .ensures, c .before .before .high-word .ensures)
 
 pub lshl-spec : {M : Type 1} → statement M
 lshl-spec =

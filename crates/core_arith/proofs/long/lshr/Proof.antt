@@ -9,18 +9,18 @@ use Rattle.core_arith.proofs.long.lshr.Tie as tie
 
 returns : tie.Need-returns
 unfolding lshr
-returns c = rw (yes-lt (c .before .if1 .taken)) (c .halts .ensures)
+returns c = rw (yes-lt (c .before .if1 .taken)) (c .stopped .ensures)
 
 returns-2 : tie.Need-returns-2
 unfolding lshr
 returns-2 c =
     let s = c .before .before .before .before .before .before .args .s in
     let e : double (s .c) (s .b) / 2 ^ s .a ≡ 0 = rw (c .before .before .if2 .taken) (omega arith) in
-    rw (no-lt (c .before .before .before .before .if1 .left), e, c .goes .ensures, c .before .split .ensures)
+    rw (no-lt (c .before .before .before .before .if1 .left), e, c .completed .ensures, c .before .split .ensures)
 
 returns-3 : tie.Need-returns-3
 unfolding lshr
-returns-3 c = rw (no-lt (c .before .before .before .before .before .before .before .before .if1 .left), ← c .before .before .before .before .before .double .ensures, c .goes2 .ensures, c .before .split2 .ensures, c .before .before .before .high-word .ensures, c .before .before .low-word .ensures)
+returns-3 c = rw (no-lt (c .before .before .before .before .before .before .before .before .if1 .left), ← c .before .before .before .before .before .double .ensures, c .completed2 .ensures, c .before .split2 .ensures, c .before .before .before .high-word .ensures, c .before .before .low-word .ensures)
 
 pub lshr-spec : {M : Type 1} → statement M
 lshr-spec =

@@ -9,18 +9,18 @@ use Rattle.core_ops.proofs.logic.shr.Tie as tie
 
 returns : tie.Need-returns
 unfolding shr
-returns c = rw (yes-lt (c .before .if1 .taken)) (c .halts .ensures)
+returns c = rw (yes-lt (c .before .if1 .taken)) (c .stopped .ensures)
 
 returns-2 : tie.Need-returns-2
 unfolding shr
 returns-2 c =
     let s = c .before .before .before .before .before .before .args .s in
     let e : s .b / 2 ^ s .a ≡ 0 = rw (c .before .before .if2 .taken) (omega arith) in
-    rw (no-lt (c .before .before .before .before .if1 .left), e, c .goes .ensures, c .before .result .ensures)
+    rw (no-lt (c .before .before .before .before .if1 .left), e, c .completed .ensures, c .before .result .ensures)
 
 returns-3 : tie.Need-returns-3
 unfolding shr
-returns-3 c = rw (no-lt (c .before .before .before .before .before .if1 .left), c .goes2 .ensures, c .before .result2 .ensures)
+returns-3 c = rw (no-lt (c .before .before .before .before .before .if1 .left), c .completed2 .ensures, c .before .result2 .ensures)
 
 pub shr-spec : {M : Type 1} → statement M
 shr-spec =

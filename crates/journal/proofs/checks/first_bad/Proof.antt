@@ -17,13 +17,13 @@ returns-3 : tie.Need-returns-3
 returns-3 c =
     let f = c .before in
     let i = f .before .before in
-    bad-frame _ _ _ _ _ (sym (i .before .size-bad .ensures) ∙ i .if1 .left) (f .before .if2 .left) (sym (f .frame-bad .ensures) ∙ c .if3 .taken)
+    bad-frame _ _ _ _ _ (sym (i .before .size-bad .ensures) ∙ i .if1 .left) (f .before .if2 .left) (sym (f .bounds-bad .ensures) ∙ c .if3 .taken)
 
 returns-4 : tie.Need-returns-4
 returns-4 c =
     let f = c .before in
     let i = f .before .before in
-    bad-none _ _ _ _ _ (sym (i .before .size-bad .ensures) ∙ i .if1 .left) (f .before .if2 .left) (sym (f .frame-bad .ensures) ∙ c .if3 .left)
+    bad-none _ _ _ _ _ (sym (i .before .size-bad .ensures) ∙ i .if1 .left) (f .before .if2 .left) (sym (f .bounds-bad .ensures) ∙ c .if3 .left)
 
 pub first-bad-spec : {M : Type 1} → statement M
 first-bad-spec =

@@ -6,7 +6,7 @@ use Rattle.links.proofs.clock.tick_clocks.Tie as tie
 
 returns : tie.Need-returns
 unfolding tickClocks put
-returns c = rw (← c .before .before .at-byte .ensures, ← c .before .tick-prescaler .ensures) (c .tick-slice .ensures)
+returns c = rw (← c .before .before .wrap-add .ensures, ← c .before .tick-prescaler .ensures) (c .tick-slice .ensures)
 
 pub tick-clocks-spec : {M : Type 1} → statement M
 tick-clocks-spec =

@@ -7,7 +7,7 @@ use Rattle.links.proofs.clock.tick_prescaler.Tie as tie
 
 returns : tie.Need-returns
 unfolding tickPrescaler put
-returns c = rw (yes-le (c .before .if1 .taken), ← c .at-byte .ensures)
+returns c = rw (yes-le (c .before .if1 .taken), ← c .wrap-add .ensures)
 
 returns-2 : tie.Need-returns-2
 unfolding tickPrescaler put

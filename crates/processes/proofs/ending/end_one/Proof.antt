@@ -6,7 +6,7 @@ use Rattle.processes.proofs.ending.end_one.Tie as tie
 returns : tie.Need-returns
 unfolding endOne
 returns c = (
-  rw (← c .before .before .before .at-byte .ensures, ← c .before .w-index-word .ensures .0) (c .goto-snp .ensures .0),
+  rw (← c .before .before .before .wrap-add .ensures, ← c .before .w-index-word .ensures .0) (c .goto-snp .ensures .0),
   search needs,
 )
 

@@ -5,7 +5,7 @@ use Rattle.scheduling.proofs.flags.add_to_c.Tie as tie
 
 returns : tie.Need-returns
 unfolding addToC
-returns c = (rw (← c .before .at-byte .ensures) (c .put .ensures .0), search needs)
+returns c = (rw (← c .before .wrap-add .ensures) (c .put .ensures .0), search needs)
 
 pub add-to-c-spec : {M : Type 1} → statement M
 add-to-c-spec = tie.close (tie.spec (λ c. search needs) (λ c κs. search needs) (λ c κs. search needs) returns)

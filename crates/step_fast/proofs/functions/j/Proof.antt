@@ -6,11 +6,11 @@ use Rattle.step_fast.proofs.functions.j.Tie as tie
 
 returns : tie.Need-returns
 unfolding swift.j
-returns c = rw (← c .before .before .slices .ensures, c .before .if1 .taken) (c .cold .ensures)
+returns c = rw (← c .before .before .slice-ends .ensures, c .before .if1 .taken) (c .cold .ensures)
 
 returns-2 : tie.Need-returns-2
 unfolding swift.j
-returns-2 c = rw (← c .before .before .before .slices .ensures, c .before .before .if1 .left, ← c .before .at-byte .ensures) (c .plain .ensures)
+returns-2 c = rw (← c .before .before .before .slice-ends .ensures, c .before .before .if1 .left, ← c .before .at-byte .ensures) (c .plain .ensures)
 
 pub j-spec : {M : Type 1} → statement M
 j-spec =

@@ -1,16 +1,16 @@
 use Prim.Native.Nat.{_-_}
 use Rattle.rules.proofs.Tests.{yes-eq, no-eq}
-use Rattle.step_pending.specs.Quiet as quiet
+use Rattle.step_pending.specs.NothingPending as pending
 use borrow.Author.Needs.{needs}
 use Rattle.step_pending.proofs.pending.due.Statement.{statement}
 use Rattle.step_pending.proofs.pending.due.Tie as tie
 
 returns : tie.Need-returns
-unfolding quiet.due
+unfolding pending.due
 returns c = rw (← c .before .pre .1, yes-eq (c .if1 .taken))
 
 returns-2 : tie.Need-returns-2
-unfolding quiet.due
+unfolding pending.due
 returns-2 c = rw (← c .before .before .pre .1, no-eq (c .before .if1 .left), ← c .later .ensures)
 
 pub due-spec : {M : Type 1} → statement M

@@ -14,9 +14,9 @@ use Rattle.rules.specs.declared.Core.{Core}
 -- ---- what may come before an instruction
 
 -- of the n channels from c on none has a request (01, One step (a))
-unfoldable pub calm : ℕ → ℕ → List ℕ → Bool
-calm c zero r = true
-calm c (suc n) r = ifSet (runRequest + readyRequest) (getD r (channelReg c) 0) false (calm (suc c) n r)
+unfoldable pub noRequest : ℕ → ℕ → List ℕ → Bool
+noRequest c zero r = true
+noRequest c (suc n) r = ifSet (runRequest + readyRequest) (getD r (channelReg c) 0) false (noRequest (suc c) n r)
 
 -- a timer is enabled and its time has come: TNextReg is not AFTER ClockReg (000 1.8; DECISIONS 16)
 unfoldable pub due : ℕ → List ℕ → Bool
@@ -24,18 +24,18 @@ due queue r =
     ifSet (tEnabled queue) (getD r flagsReg 0) (not (later (getD r (tnextReg queue) 0) (getD r (clockReg queue) 0))) false
 
 -- no channel has a request and neither timer is due, whatever the priority: (a) and (b) do not apply (01, One step; DECISIONS 54)
-unfoldable pub unasked : List ℕ → Bool
-unasked r = pick (calm 0 linkChans r) (pick (due 0 r) false (not (due 1 r))) false
+unfoldable pub nothingToServe : List ℕ → Bool
+nothingToServe r = pick (noRequest 0 linkChans r) (pick (due 0 r) false (not (due 1 r))) false
 
 -- not halted, not idle, GotoSNP clear; and where Oreg is 0, unasked: (c) applies (01, One step; DECISIONS 54)
-unfoldable pub quiet : List ℕ → Bool
-quiet r =
+unfoldable pub nothingPending : List ℕ → Bool
+nothingPending r =
     ifSet haltedFlag (getD r flagsReg 0) false
     (ifSet idleFlag (getD r flagsReg 0) false
-    (ifSet gotoSNPBit (getD r statusReg 0) false (ifEq (getD r oreg 0) 0 (unasked r) true)))
+    (ifSet gotoSNPBit (getD r statusReg 0) false (ifEq (getD r oreg 0) 0 (nothingToServe r) true)))
 
 -- a slice ends at a jump: the process is low, the clocks run, and slice is 1,024 or more (01, Links, clocks, slice; DECISIONS 24)
-unfoldable pub slices : Core → List ℕ → Bool
-slices s r =
+unfoldable pub sliceEnds : Core → List ℕ → Bool
+sliceEnds s r =
     ifEq (priorityOf (s .wdesc)) 0 false
     (ifSet stack.clocksRun (getD r flagsReg 0) (ifLe sliceLength (getD r sliceReg 0) true false) false)

@@ -2,13 +2,13 @@ use borrow.Author.Needs.{needs}
 use native.Mathlib.Omega.{arith}
 use mathlib.Core.Path.{_≡_, refl, sym, _∙_}
 use Prim.Native.Nat.{_+_, _-_, _≤_}
-use Rattle.step_pending.specs.Quiet as quiet
-use Rattle.step_pending.proofs.Requests.{calm-on, calm-off}
-use Rattle.step_pending.proofs.pending.calm.Statement.{statement}
-use Rattle.step_pending.proofs.pending.calm.Tie as tie
+use Rattle.step_pending.specs.NothingPending as pending
+use Rattle.step_pending.proofs.Requests.{no-request-on, no-request-off}
+use Rattle.step_pending.proofs.pending.no_request.Statement.{statement}
+use Rattle.step_pending.proofs.pending.no_request.Tie as tie
 
 abbrev Inv-loop : tie.InvT-loop
-Inv-loop regs c₀ c = (c ≤ 9) × (quiet.calm 0 9 regs ≡ quiet.calm c (9 - c) regs)
+Inv-loop regs c₀ c = (c ≤ 9) × (pending.noRequest 0 9 regs ≡ pending.noRequest c (9 - c) regs)
 
 abbrev μ-loop : tie.MeasureT-loop
 μ-loop regs c₀ c = 9 - c
@@ -38,22 +38,22 @@ loop-again : tie.Need-loop-again Inv-loop μ-loop
 loop-again c =
     let L = c .before .before in
     let e : 9 - (L .loop .c + 1) ≡ 9 - L .loop .c - 1 = omega arith in
-    (omega arith, rw e (L .loop .inv .1 ∙ calm-on (L .before .args .t1) (9 - L .loop .c) (L .loop .c) (omega arith) (c .if1 .taken)))
+    (omega arith, rw e (L .loop .inv .1 ∙ no-request-on (L .before .args .t1) (9 - L .loop .c) (L .loop .c) (omega arith) (c .if1 .taken)))
 
 returns : tie.Need-returns Inv-loop μ-loop
 returns c =
     let L = c .before .before in
-    sym (L .loop .inv .1 ∙ calm-off (L .before .args .t1) (9 - L .loop .c) (L .loop .c) (omega arith) (c .if1 .left))
+    sym (L .loop .inv .1 ∙ no-request-off (L .before .args .t1) (9 - L .loop .c) (L .loop .c) (omega arith) (c .if1 .left))
 
 returns-2 : tie.Need-returns-2 Inv-loop μ-loop
-unfolding quiet.calm
+unfolding pending.noRequest
 returns-2 c =
     let L = c .before in
     let e : 9 - L .loop .c ≡ 0 = omega arith in
     sym (rw e at (L .loop .inv .1))
 
-pub calm-spec : {M : Type 1} → statement M
-calm-spec =
+pub no-request-spec : {M : Type 1} → statement M
+no-request-spec =
     tie.close
     (tie.spec
     Inv-loop
