@@ -14,8 +14,8 @@ use Rattle.rules.specs.Work.{begin}
 use Rattle.rules.specs.Calls.{machineOf, recorded, commitOrRefuse}
 use Rattle.rules.specs.declared.Machine.{Machine}
 use Rattle.rules.proofs.Tests.{yes-eq}
-use Rattle.step_fast.specs.declared.Swift.{Swift}
-use Rattle.step_fast.specs.Swift.{swiftWork}
+use Rattle.step_fast.specs.declared.FastStep.{FastStep}
+use Rattle.step_fast.specs.Fast.{fastWork}
 use Rattle.laws.proofs.Single.{touched-none, touched-one, touched-past, stores-one, stores-past, stores-no}
 use Rattle.journal_record.proofs.Written.{sets-append}
 use Rattle.laws.proofs.Touched.{length-olds}
@@ -33,7 +33,7 @@ tail-written j regs at n h =
 
 -- ---- the words that a common step stores to
 
-module _ (size : ℕ) (t : Swift) where
+module _ (size : ℕ) (t : FastStep) where
   counted :
       (n : ℕ) (ss : List Store)
       → pick (t .stores) (word (t .index) (t .value) ∷ []) [] ≡ ss
@@ -101,8 +101,8 @@ record-written j mem regs ks at n e =
 -- ---- what a common step comes to
 
 pub comes :
-    (m : Machine) (mem j : List ℕ) (t : Swift)
-    → recorded m mem j 0 (withCore (t .core) (m .regs)) (touched (length mem) (storesOf t)) (stores mem (storesOf t)) ≡ commitOrRefuse m mem j 0 (swiftWork (m .regs) t)
+    (m : Machine) (mem j : List ℕ) (t : FastStep)
+    → recorded m mem j 0 (withCore (t .core) (m .regs)) (touched (length mem) (storesOf t)) (stores mem (storesOf t)) ≡ commitOrRefuse m mem j 0 (fastWork (m .regs) t)
 unfolding commitOrRefuse
 comes m mem j t = rw (yes-eq {a = 0} {b = 0} refl)
 

@@ -9,7 +9,7 @@ use rules::Core;
 use rules::Machine;
 use rules::REGISTERS;
 use rules::Reply;
-use step_fast::Swift;
+use step_fast::FastStep;
 ghost use mathlib.Core.Path.{_≡_};
 ghost use mathlib.Core.Bool.{false};
 ghost use mathlib.Core.List.{[], _∷_, _++_};
@@ -20,7 +20,7 @@ ghost use Rattle.rules.specs.Registers.{registers, withCore};
 ghost use Rattle.rules.specs.Work.{begin};
 ghost use Rattle.rules.specs.Journal.{olds, boundsBad};
 ghost use Rattle.rules.specs.Calls.{outcomeOf, commitOrRefuse};
-ghost use Rattle.step_fast.specs.Swift.{swiftWork};
+ghost use Rattle.step_fast.specs.Fast.{fastWork};
 ghost use Rattle.journal_small.specs.Count.{Counted, listed, made};
 
 // The registers with the seven of s.
@@ -60,7 +60,7 @@ fn put_pair(journal: &mut [u32], mem: &[u32], i: u32, at: usize)
 }
 
 // How many words the step stores to, 0 or 1. A store past the end of memory is none.
-fn count(t: Swift, size: usize) -> usize
+fn count(t: FastStep, size: usize) -> usize
     ensures { λ r. ⌜ Counted size t r ⌝ }
 {
     let stores = t.stores;
@@ -86,9 +86,9 @@ fn make(mem: &mut [u32], journal: &mut [u32], n: usize, i: u32, v: u32, at: usiz
 }
 
 // A common step made real. In one piece: a machine or a reply that is handed on is copied.
-pub fn commit_common(m: Machine, t: Swift, mem: &mut [u32], journal: &mut [u32]) -> Reply
+pub fn commit_common(m: Machine, t: FastStep, mem: &mut [u32], journal: &mut [u32]) -> Reply
     requires { ⌜ (length (now journal) ≤ 65536) × (boundsBad (length (now journal)) (m .depth) (m .used) ≡ false) ⌝ }
-    ensures { λ r. ⌜ outcomeOf r (now (mem .exit)) (now (journal .exit)) ≡ commitOrRefuse m (now (mem .entry)) (now (journal .entry)) 0 (swiftWork (m .regs) t) ⌝ }
+    ensures { λ r. ⌜ outcomeOf r (now (mem .exit)) (now (journal .exit)) ≡ commitOrRefuse m (now (mem .entry)) (now (journal .entry)) 0 (fastWork (m .regs) t) ⌝ }
 {
     let used = m.used;
     let n = count(t, mem.len());

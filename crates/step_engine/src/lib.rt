@@ -1,5 +1,4 @@
 // One step (01, One step): as a plan over registers and memory, with the refusals 6, 7 and 9 to 11, and then commitOrRefuse.
-pub mod operations; // Which function a byte names, and which operation Oreg names (000 1.11). The tables are those of rules; that of
 
 use plan::Plan;
 use rules::Machine;
@@ -33,7 +32,10 @@ fn execute(w: Plan, mem: &[u32], code: u32) -> Plan
     requires { ⌜ Room 12 w × (w .count ≡ 0) ⌝ }
     ensures { λ r. ⌜ (view r ≡ step.execute (now (mem .entry)) code (view w)) × Ended 12 w r ⌝ }
 {
-    scheduling::start_next::act_on_snp(plan::put(operations::function(w, mem, code), OREG, 0), mem)
+    scheduling::start_next::act_on_snp(
+        plan::put(step_dispatch::function(w, mem, code), OREG, 0),
+        mem,
+    )
 }
 
 fn decode(w: Plan, mem: &[u32], code: u32) -> Plan

@@ -24,8 +24,8 @@ use Rattle.rules.specs.Step as steps
 use Rattle.rules.proofs.Tests.{yes-lt, no-lt, yes-le, no-le, yes-eq, no-eq, no, by-bool, cases-lt, cases-eq}
 use Rattle.rules.specs.declared.Core.{Core}
 use Rattle.step_pending.specs.NothingPending as pending
-use Rattle.step_fast.specs.declared.Swift.{Swift}
-use Rattle.step_fast.specs.Swift as swift
+use Rattle.step_fast.specs.declared.FastStep.{FastStep}
+use Rattle.step_fast.specs.Fast as fast
 
 -- ---- the registers as the seven and the rest
 
@@ -52,7 +52,7 @@ unfolding coreOf
 core-listed s rest = refl
 
 -- the work that is left by a common step, over the seven registers and the rest
-abbrev pub left : List ℕ → Swift → Work
+abbrev pub left : List ℕ → FastStep → Work
 left rest t =
     record {
       regs = listed (t .core) rest;
@@ -82,65 +82,65 @@ never e = absurd (let z : _≡_ {A = ℕ} 0 1 = cc in omega arith)
 
 -- ---- a property of each row of a table is one of what is looked up in it
 
-abbrev All : (ℕ → (Core → Swift) → Type 0) → List (ℕ × (Core → Swift)) → Type 0
+abbrev All : (ℕ → (Core → FastStep) → Type 0) → List (ℕ × (Core → FastStep)) → Type 0
 All P [] = Unit {0}
 All P (e ∷ t) = P (e .0) (e .1) × All P t
 
-looked : (P : ℕ → (Core → Swift) → Type 0) (t : List (ℕ × (Core → Swift))) → All P t → (k : ℕ) → P k swift.other → P k (look t k swift.other)
+looked : (P : ℕ → (Core → FastStep) → Type 0) (t : List (ℕ × (Core → FastStep))) → All P t → (k : ℕ) → P k fast.other → P k (look t k fast.other)
 looked P [] all k o = o
 looked P (e ∷ t) all k o =
     by-bool (eqb k (e .0)) (λ h. rw (h, eqb-true k (e .0) h) (all .0)) (λ h. rw h (looked P t (all .1) k o))
 
 module _ (m rest : List ℕ) where
   -- an executed function, to its end
-  abbrev pub Good : ℕ → Core → Swift → Type 0
+  abbrev pub Good : ℕ → Core → FastStep → Type 0
   Good code s t =
       t .done ≡ true → bitAnd (s .status) gotoSNPBit ≡ 0
       → steps.haltOnError (s .status) (steps.execute m code (begin (listed s rest))) ≡ left rest t
 
   -- what is on the evaluation stack alone
-  quick-left : (f : Core → Core) (s : Core) → swift.quick f s .done ≡ true → bitAnd (s .status) gotoSNPBit ≡ 0
+  registers-left : (f : Core → Core) (s : Core) → fast.registersOnly f s .done ≡ true → bitAnd (s .status) gotoSNPBit ≡ 0
       → steps.haltOnError (s .status) (scheduling.actOnSNP m (put oreg 0 (putCore (f (coreOf (listed s rest))) (begin (listed s rest)))))
-      ≡ left rest (swift.quick f s)
-  unfolding swift.kept put putCore coreOf withCore
-  quick-left f s d clear =
+      ≡ left rest (fast.registersOnly f s)
+  unfolding fast.ifSameStatus put putCore coreOf withCore
+  registers-left f s d clear =
       cases-eq (f s .status) (s .status)
       (λ e. rw (yes-eq e) (finish m (s .status) _ e clear))
       (λ n. never (rw (no-eq n) at d))
 
   -- load local, load non-local
-  ldl-good : (s : Core) → Good 0x7 s (swift.ldl m s)
-  unfolding swift.ldl steps.execute tables.function tables.functions loads.ldl loads.pushed put rIndexWord wordAt access stores
+  ldl-good : (s : Core) → Good 0x7 s (fast.ldl m s)
+  unfolding fast.ldl steps.execute tables.function tables.functions loads.ldl loads.pushed put rIndexWord wordAt access stores
   ldl-good s d clear =
       cases-lt (index (atWord (wptrOf (s .wdesc)) (s .oreg))) (length m)
       (λ h. rw (yes-lt h, yes-lt h) (finish m (s .status) _ refl clear))
       (λ h. never (rw (no-lt h) at d))
 
-  ldnl-good : (s : Core) → Good 0x3 s (swift.ldnl m s)
-  unfolding swift.ldnl steps.execute tables.function tables.functions loads.ldnl put rIndexWord wordAt access stores
+  ldnl-good : (s : Core) → Good 0x3 s (fast.ldnl m s)
+  unfolding fast.ldnl steps.execute tables.function tables.functions loads.ldnl put rIndexWord wordAt access stores
   ldnl-good s d clear =
       cases-lt (index (atWord (s .a) (s .oreg))) (length m)
       (λ h. rw (yes-lt h, yes-lt h) (finish m (s .status) _ refl clear))
       (λ h. never (rw (no-lt h) at d))
 
   -- store local, store non-local
-  stl-good : (s : Core) → Good 0xD s (swift.stl m s)
-  unfolding swift.stl steps.execute tables.function tables.functions loads.stl loads.popped put wIndexWord storeWord access append ifEq
+  stl-good : (s : Core) → Good 0xD s (fast.stl m s)
+  unfolding fast.stl steps.execute tables.function tables.functions loads.stl loads.popped put wIndexWord storeWord access append ifEq
   stl-good s d clear =
       cases-lt (index (atWord (wptrOf (s .wdesc)) (s .oreg))) (length m)
       (λ h. rw (yes-lt h, yes-lt h) (finish m (s .status) _ refl clear))
       (λ h. never (rw (no-lt h) at d))
 
-  stnl-good : (s : Core) → Good 0xE s (swift.stnl m s)
-  unfolding swift.stnl steps.execute tables.function tables.functions loads.stnl put wIndexWord storeWord access append ifEq
+  stnl-good : (s : Core) → Good 0xE s (fast.stnl m s)
+  unfolding fast.stnl steps.execute tables.function tables.functions loads.stnl put wIndexWord storeWord access append ifEq
   stnl-good s d clear =
       cases-lt (index (atWord (s .a) (s .oreg))) (length m)
       (λ h. rw (yes-lt h, yes-lt h) (finish m (s .status) _ refl clear))
       (λ h. never (rw (no-lt h) at d))
 
   -- jump
-  j-good : (s₀ s : Core) → Good 0x0 s (swift.j (listed s₀ rest) s)
-  unfolding swift.j pending.sliceEnds steps.execute tables.function tables.functions scheduling.j scheduling.timeSlice scheduling.sliceIfRunning scheduling.sliceIfLong put
+  j-good : (s₀ s : Core) → Good 0x0 s (fast.j (listed s₀ rest) s)
+  unfolding fast.j pending.sliceEnds steps.execute tables.function tables.functions scheduling.j scheduling.timeSlice scheduling.sliceIfRunning scheduling.sliceIfLong put
   j-good s₀ s d clear =
       cases-eq (priorityOf (s .wdesc)) 0
       (λ h. rw (yes-eq h, yes-eq h) (finish m (s .status) _ refl clear))
@@ -152,46 +152,46 @@ module _ (m rest : List ℕ) where
 
   -- ---- operations: each row of the table is the row of rules
 
-  abbrev Row : ℕ → (Core → Swift) → Type 0
+  abbrev Row : ℕ → (Core → FastStep) → Type 0
   Row k f = (s : Core) → f s .done ≡ true → bitAnd (s .status) gotoSNPBit ≡ 0
       → steps.haltOnError (s .status) (scheduling.actOnSNP m (put oreg 0 (tables.operate k m (begin (listed s rest))))) ≡ left rest (f s)
 
-  rows : All Row swift.operations
-  unfolding swift.operations tables.operate tables.operations
+  rows : All Row fast.operations
+  unfolding fast.operations tables.operate tables.operations
   rows =
-      (quick-left stack.rev, (quick-left stack.bsub, (quick-left stack.diff, (quick-left stack.add, (quick-left stack.gcall, (quick-left stack.prod, (quick-left stack.gt, (quick-left stack.wsub, (quick-left stack.sub, (quick-left stack.csub0, (quick-left stack.ldpi, (quick-left stack.ldpri, (quick-left stack.rem, (quick-left stack.div, (quick-left stack.bitnot, (quick-left stack.xor, (quick-left stack.bcnt, (quick-left stack.gajw, (quick-left stack.wcnt, (quick-left stack.mint, (quick-left stack.and, (quick-left stack.or, (quick-left stack.ccnt1, (quick-left stack.sum, (quick-left stack.mul, tt)))))))))))))))))))))))))
+      (registers-left stack.rev, (registers-left stack.bsub, (registers-left stack.diff, (registers-left stack.add, (registers-left stack.gcall, (registers-left stack.prod, (registers-left stack.gt, (registers-left stack.wsub, (registers-left stack.sub, (registers-left stack.csub0, (registers-left stack.ldpi, (registers-left stack.ldpri, (registers-left stack.rem, (registers-left stack.div, (registers-left stack.bitnot, (registers-left stack.xor, (registers-left stack.bcnt, (registers-left stack.gajw, (registers-left stack.wcnt, (registers-left stack.mint, (registers-left stack.and, (registers-left stack.or, (registers-left stack.ccnt1, (registers-left stack.sum, (registers-left stack.mul, tt)))))))))))))))))))))))))
 
-  opr-good : (s : Core) → Good 0xF s (swift.opr s)
-  unfolding swift.operate steps.execute tables.function tables.functions
-  opr-good s d clear = looked Row swift.operations rows (s .oreg) (λ s d clear. never d) s d clear
+  opr-good : (s : Core) → Good 0xF s (fast.opr s)
+  unfolding fast.operate steps.execute tables.function tables.functions
+  opr-good s d clear = looked Row fast.operations rows (s .oreg) (λ s d clear. never d) s d clear
 
   -- ---- decoding
 
-  abbrev Decoded : ℕ → (Core → Swift) → Type 0
+  abbrev Decoded : ℕ → (Core → FastStep) → Type 0
   Decoded k f = (s : Core) → f s .done ≡ true → bitAnd (s .status) gotoSNPBit ≡ 0
       → steps.haltOnError (s .status) (steps.decode m k (begin (listed s rest))) ≡ left rest (f s)
 
-  prefix-left : (f : Core → Core) (s : Core) → (f s .status ≡ s .status) → steps.haltOnError (s .status) (putCore (f (coreOf (listed s rest))) (begin (listed s rest))) ≡ left rest (swift.prefix (f s))
+  prefix-left : (f : Core → Core) (s : Core) → (f s .status ≡ s .status) → steps.haltOnError (s .status) (putCore (f (coreOf (listed s rest))) (begin (listed s rest))) ≡ left rest (fast.prefix (f s))
   unfolding putCore coreOf withCore
   prefix-left f s e = halt-same (s .status) _ e
 
-  decode-rows : (s₀ : Core) → All Decoded (swift.functions m (listed s₀ rest))
-  unfolding swift.functions steps.decode ifEq steps.execute tables.function tables.functions
+  decode-rows : (s₀ : Core) → All Decoded (fast.functions m (listed s₀ rest))
+  unfolding fast.functions steps.decode ifEq steps.execute tables.function tables.functions
   decode-rows s₀ =
-      (j-good s₀, (quick-left stack.ldlp, ((λ s d clear. prefix-left stack.pfix s refl), (ldnl-good, (quick-left stack.ldc, (quick-left stack.ldnlp, ((λ s d clear. prefix-left stack.nfix s refl), (ldl-good, (quick-left stack.adc, (quick-left stack.cj, (quick-left stack.ajw, (quick-left stack.eqc, (stl-good, (stnl-good, (opr-good, tt)))))))))))))))
+      (j-good s₀, (registers-left stack.ldlp, ((λ s d clear. prefix-left stack.pfix s refl), (ldnl-good, (registers-left stack.ldc, (registers-left stack.ldnlp, ((λ s d clear. prefix-left stack.nfix s refl), (ldl-good, (registers-left stack.adc, (registers-left stack.cj, (registers-left stack.ajw, (registers-left stack.eqc, (stl-good, (stnl-good, (opr-good, tt)))))))))))))))
 
-  decode-good : (s₀ : Core) (k : ℕ) → Decoded k (swift.decode m (listed s₀ rest) k)
-  unfolding swift.decode
-  decode-good s₀ k = looked Decoded (swift.functions m (listed s₀ rest)) (decode-rows s₀) k (λ s d clear. never d)
+  decode-good : (s₀ : Core) (k : ℕ) → Decoded k (fast.decode m (listed s₀ rest) k)
+  unfolding fast.decode
+  decode-good s₀ k = looked Decoded (fast.functions m (listed s₀ rest)) (decode-rows s₀) k (λ s d clear. never d)
 
   -- ---- the fetch
 
-  fetch-good : (s : Core) → swift.fetch m (listed s rest) s .done ≡ true → bitAnd (s .status) gotoSNPBit ≡ 0
-      → steps.haltOnError (s .status) (steps.instruction m (begin (listed s rest))) ≡ left rest (swift.fetch m (listed s rest) s)
-  unfolding swift.fetch swift.decoded steps.instruction steps.fetched put byteAt wordAt access stores
+  fetch-good : (s : Core) → fast.fetch m (listed s rest) s .done ≡ true → bitAnd (s .status) gotoSNPBit ≡ 0
+      → steps.haltOnError (s .status) (steps.instruction m (begin (listed s rest))) ≡ left rest (fast.fetch m (listed s rest) s)
+  unfolding fast.fetch fast.decoded steps.instruction steps.fetched put byteAt wordAt access stores
   fetch-good s d clear =
       cases-lt (index (s .iptr)) (length m)
-      (λ h. rw (yes-lt h, yes-lt h) (decode-good s (byteOf (selector (s .iptr)) (getD m (index (s .iptr)) 0) / 2 ^ 4) (swift.fetched (byteOf (selector (s .iptr)) (getD m (index (s .iptr)) 0)) s) (rw (yes-lt h) at d) clear))
+      (λ h. rw (yes-lt h, yes-lt h) (decode-good s (byteOf (selector (s .iptr)) (getD m (index (s .iptr)) 0) / 2 ^ 4) (fast.fetched (byteOf (selector (s .iptr)) (getD m (index (s .iptr)) 0)) s) (rw (yes-lt h) at d) clear))
       (λ h. never (rw (no-lt h) at d))
 
 -- ---- what may come before an instruction
@@ -267,9 +267,9 @@ module _ (m r : List ℕ) where
   nothing-pending-step q = rw (yes-eq (q .awake), q .first, yes-eq (q .busy))
 
 -- THE LAW: a common step is the step of rules
-listed-step : (m : List ℕ) (s : Core) (rest : List ℕ) → swift.swift m (listed s rest) .done ≡ true
-    → steps.step m (begin (listed s rest)) ≡ swift.swiftWork (listed s rest) (swift.swift m (listed s rest))
-unfolding swift.swift coreOf withCore
+listed-step : (m : List ℕ) (s : Core) (rest : List ℕ) → fast.fast m (listed s rest) .done ≡ true
+    → steps.step m (begin (listed s rest)) ≡ fast.fastWork (listed s rest) (fast.fast m (listed s rest))
+unfolding fast.fast coreOf withCore
 listed-step m s rest d =
     by-bool (pending.nothingPending (listed s rest))
     (λ h.
@@ -277,7 +277,7 @@ listed-step m s rest d =
     rw (h, nothing-pending-step m (listed s rest) q) (fetch-good m rest s (rw h at d) (q .clear)))
     (λ h. never (rw h at d))
 
-pub swift-step : (m r : List ℕ) → 7 ≤ length r → swift.swift m r .done ≡ true
-    → steps.step m (begin r) ≡ swift.swiftWork r (swift.swift m r)
-swift-step m r l d =
+pub fast-step : (m r : List ℕ) → 7 ≤ length r → fast.fast m r .done ≡ true
+    → steps.step m (begin r) ≡ fast.fastWork r (fast.fast m r)
+fast-step m r l d =
     rw (seven r l) (listed-step m (coreOf r) (drop 7 r) (rw (seven r l) at d))

@@ -1,5 +1,5 @@
 // The functions of common steps, on the seven registers after the fetch.
-use crate::Swift;
+use crate::FastStep;
 use core_arith::word;
 use core_ops::errors;
 use core_ops::logic;
@@ -8,12 +8,12 @@ use rules::Core;
 use rules::REGISTERS;
 use step_pending::pending;
 ghost use mathlib.Core.Path.{_≡_};
-ghost use Rattle.step_fast.specs.Swift as swift;
+ghost use Rattle.step_fast.specs.Fast as fast;
 ghost use Rattle.rules.specs.Core as core;
 
 // Left to the engine.
-pub fn cold() -> Swift
-    ensures { λ r. ⌜ r ≡ swift.cold ⌝ }
+pub fn decline() -> FastStep
+    ensures { λ r. ⌜ r ≡ fast.decline ⌝ }
 {
     let core = Core {
         iptr: 0,
@@ -24,7 +24,7 @@ pub fn cold() -> Swift
         oreg: 0,
         status: 0,
     };
-    Swift {
+    FastStep {
         done: false,
         core,
         stores: false,
@@ -34,10 +34,10 @@ pub fn cold() -> Swift
 }
 
 // Done; a prefix keeps Oreg.
-fn prefix(s: Core) -> Swift
-    ensures { λ r. ⌜ r ≡ swift.prefix s ⌝ }
+fn prefix(s: Core) -> FastStep
+    ensures { λ r. ⌜ r ≡ fast.prefix s ⌝ }
 {
-    Swift {
+    FastStep {
         done: true,
         core: s,
         stores: false,
@@ -47,20 +47,20 @@ fn prefix(s: Core) -> Swift
 }
 
 // Done, with Oreg 0 afterwards.
-fn plain(s: Core) -> Swift
-    ensures { λ r. ⌜ r ≡ swift.plain s ⌝ }
+fn finish(s: Core) -> FastStep
+    ensures { λ r. ⌜ r ≡ fast.finish s ⌝ }
 {
     let mut t = s;
     t.oreg = 0;
     prefix(t)
 }
 
-fn storing(i: u32, v: u32, s: Core) -> Swift
-    ensures { λ r. ⌜ r ≡ swift.storing i v s ⌝ }
+fn finish_storing(i: u32, v: u32, s: Core) -> FastStep
+    ensures { λ r. ⌜ r ≡ fast.finishStoring i v s ⌝ }
 {
     let mut t = s;
     t.oreg = 0;
-    Swift {
+    FastStep {
         done: true,
         core: t,
         stores: true,
@@ -70,122 +70,100 @@ fn storing(i: u32, v: u32, s: Core) -> Swift
 }
 
 // What works on the evaluation stack alone: t is what it makes of the registers, and Status before is given.
-fn quick(status: u32, t: Core) -> Swift
-    ensures { λ r. ⌜ r ≡ swift.kept status (swift.plain t) ⌝ }
+fn finish_if_same_status(status: u32, t: Core) -> FastStep
+    ensures { λ r. ⌜ r ≡ fast.ifSameStatus status (fast.finish t) ⌝ }
 {
     if t.status == status {
-        return plain(t);
+        return finish(t);
     }
-    cold()
+    decline()
 }
 
-fn ldl(mem: &[u32], s: Core) -> Swift
-    ensures { λ r. ⌜ r ≡ swift.ldl (now (mem .entry)) s ⌝ }
+fn ldl(mem: &[u32], s: Core) -> FastStep
+    ensures { λ r. ⌜ r ≡ fast.ldl (now (mem .entry)) s ⌝ }
 {
     let i = words::index_of(words::at_word(words::wptr_of(s.wdesc), s.oreg));
     let at = i as usize;
     if at < mem.len() {
-        return plain(stack::push(mem[at], s));
+        return finish(stack::push(mem[at], s));
     }
-    cold()
+    decline()
 }
 
-fn ldnl(mem: &[u32], s: Core) -> Swift
-    ensures { λ r. ⌜ r ≡ swift.ldnl (now (mem .entry)) s ⌝ }
+fn ldnl(mem: &[u32], s: Core) -> FastStep
+    ensures { λ r. ⌜ r ≡ fast.ldnl (now (mem .entry)) s ⌝ }
 {
     let i = words::index_of(words::at_word(s.a, s.oreg));
     let at = i as usize;
     if at < mem.len() {
-        return plain(stack::with_a(mem[at], s));
+        return finish(stack::with_a(mem[at], s));
     }
-    cold()
+    decline()
 }
 
-fn stl(mem: &[u32], s: Core) -> Swift
-    ensures { λ r. ⌜ r ≡ swift.stl (now (mem .entry)) s ⌝ }
+fn stl(mem: &[u32], s: Core) -> FastStep
+    ensures { λ r. ⌜ r ≡ fast.stl (now (mem .entry)) s ⌝ }
 {
     let i = words::index_of(words::at_word(words::wptr_of(s.wdesc), s.oreg));
     if (i as usize) < mem.len() {
-        return storing(i, s.a, stack::pop(s));
+        return finish_storing(i, s.a, stack::pop(s));
     }
-    cold()
+    decline()
 }
 
-fn stnl(mem: &[u32], s: Core) -> Swift
-    ensures { λ r. ⌜ r ≡ swift.stnl (now (mem .entry)) s ⌝ }
+fn stnl(mem: &[u32], s: Core) -> FastStep
+    ensures { λ r. ⌜ r ≡ fast.stnl (now (mem .entry)) s ⌝ }
 {
     let i = words::index_of(words::at_word(s.a, s.oreg));
     if (i as usize) < mem.len() {
-        return storing(i, s.b, stack::with_a(s.c, s));
+        return finish_storing(i, s.b, stack::with_a(s.c, s));
     }
-    cold()
+    decline()
 }
 
-fn j(regs: [u32; REGISTERS], s: Core) -> Swift
-    ensures { λ r. ⌜ r ≡ swift.j regs s ⌝ }
+fn j(regs: [u32; REGISTERS], s: Core) -> FastStep
+    ensures { λ r. ⌜ r ≡ fast.j regs s ⌝ }
 {
     if pending::slice_ends(regs, s) {
-        return cold();
+        return decline();
     }
     let mut t = s;
     t.iptr = words::at_byte(s.iptr, s.oreg);
-    plain(t)
+    finish(t)
 }
 
-// The operations on the evaluation stack alone.
-fn operate(code: u32, s: Core) -> Swift
-    ensures { λ r. ⌜ r ≡ swift.operate code s ⌝ }
+// Does an operation on registers alone; declines every other.
+fn operate(code: u32, s: Core) -> FastStep
+    ensures { λ r. ⌜ r ≡ fast.operate code s ⌝ }
 {
-    match code {
-        0x00 => quick(s.status, stack::rev(s)),
-        0x02 => quick(s.status, logic::bsub(s)),
-        0x04 => quick(s.status, word::diff(s)),
-        0x05 => quick(s.status, word::add(s)),
-        0x06 => quick(s.status, stack::gcall(s)),
-        0x08 => quick(s.status, word::prod(s)),
-        0x09 => quick(s.status, word::gt(s)),
-        0x0A => quick(s.status, logic::wsub(s)),
-        0x0C => quick(s.status, word::sub(s)),
-        0x13 => quick(s.status, errors::csub0(s)),
-        0x1B => quick(s.status, stack::ldpi(s)),
-        0x1E => quick(s.status, stack::ldpri(s)),
-        0x1F => quick(s.status, word::rem(s)),
-        0x2C => quick(s.status, word::div(s)),
-        0x32 => quick(s.status, logic::bitnot(s)),
-        0x33 => quick(s.status, logic::xor(s)),
-        0x34 => quick(s.status, logic::bcnt(s)),
-        0x3C => quick(s.status, stack::gajw(s)),
-        0x3F => quick(s.status, logic::wcnt(s)),
-        0x42 => quick(s.status, stack::mint(s)),
-        0x46 => quick(s.status, logic::and(s)),
-        0x4B => quick(s.status, logic::or(s)),
-        0x4D => quick(s.status, errors::ccnt1(s)),
-        0x52 => quick(s.status, word::sum(s)),
-        0x53 => quick(s.status, word::mul(s)),
-        _ => cold(),
+    let t = core_table::register_operation(code, s.iptr, s.wdesc, s.a, s.b, s.c, s.oreg, s.status);
+    let found = t.found;
+    if found {
+        return finish_if_same_status(s.status, t.core);
     }
+    decline()
 }
 
 // One function; regs are all registers before the step.
-pub fn decode(mem: &[u32], regs: [u32; REGISTERS], code: u32, s: Core) -> Swift
-    ensures { λ r. ⌜ r ≡ swift.decode (now (mem .entry)) regs code s ⌝ }
+pub fn decode(mem: &[u32], regs: [u32; REGISTERS], code: u32, s: Core) -> FastStep
+    ensures { λ r. ⌜ r ≡ fast.decode (now (mem .entry)) regs code s ⌝ }
 {
     match code {
         0x0 => j(regs, s),
-        0x1 => quick(s.status, stack::ldlp(s)),
+        0x1 => finish_if_same_status(s.status, stack::ldlp(s)),
         0x2 => prefix(stack::pfix(s)),
         0x3 => ldnl(mem, s),
-        0x4 => quick(s.status, stack::ldc(s)),
-        0x5 => quick(s.status, stack::ldnlp(s)),
+        0x4 => finish_if_same_status(s.status, stack::ldc(s)),
+        0x5 => finish_if_same_status(s.status, stack::ldnlp(s)),
         0x6 => prefix(stack::nfix(s)),
         0x7 => ldl(mem, s),
-        0x8 => quick(s.status, word::adc(s)),
-        0xA => quick(s.status, stack::cj(s)),
-        0xB => quick(s.status, stack::ajw(s)),
-        0xC => quick(s.status, stack::eqc(s)),
+        0x8 => finish_if_same_status(s.status, word::adc(s)),
+        0xA => finish_if_same_status(s.status, stack::cj(s)),
+        0xB => finish_if_same_status(s.status, stack::ajw(s)),
+        0xC => finish_if_same_status(s.status, stack::eqc(s)),
         0xD => stl(mem, s),
         0xE => stnl(mem, s),
         0xF => operate(s.oreg, s),
-        _ => cold(),
+        _ => decline(),
     }
 }

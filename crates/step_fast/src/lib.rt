@@ -7,10 +7,10 @@ use rules::REGISTERS;
 ghost use mathlib.Core.Path.{_≡_};
 ghost use Prim.Native.Nat.{_<_};
 ghost use Rattle.rules.specs.Registers as registers;
-ghost use Rattle.step_fast.specs.Swift as swift;
+ghost use Rattle.step_fast.specs.Fast as fast;
 
 // What a common step comes to: whether it is one, the registers after it, and its store if it has one.
-pub struct Swift {
+pub struct FastStep {
     pub done: bool,
     pub core: Core,
     pub stores: bool,
@@ -35,7 +35,7 @@ fn core_of(regs: [u32; REGISTERS]) -> Core
 
 // The registers once a byte is fetched.
 fn fetched(byte: u32, s: Core) -> Core
-    ensures { λ r. ⌜ r ≡ swift.fetched byte s ⌝ }
+    ensures { λ r. ⌜ r ≡ fast.fetched byte s ⌝ }
 {
     let mut t = s;
     t.iptr = words::at_byte(s.iptr, 1);
@@ -43,26 +43,26 @@ fn fetched(byte: u32, s: Core) -> Core
     t
 }
 
-fn decoded(mem: &[u32], regs: [u32; REGISTERS], byte: u32, s: Core) -> Swift
-    ensures { λ r. ⌜ r ≡ swift.decoded (now (mem .entry)) regs byte s ⌝ }
+fn decoded(mem: &[u32], regs: [u32; REGISTERS], byte: u32, s: Core) -> FastStep
+    ensures { λ r. ⌜ r ≡ fast.decoded (now (mem .entry)) regs byte s ⌝ }
 {
     functions::decode(mem, regs, byte >> 4, fetched(byte, s))
 }
 
-fn fetch(mem: &[u32], regs: [u32; REGISTERS], s: Core) -> Swift
-    ensures { λ r. ⌜ r ≡ swift.fetch (now (mem .entry)) regs s ⌝ }
+fn fetch(mem: &[u32], regs: [u32; REGISTERS], s: Core) -> FastStep
+    ensures { λ r. ⌜ r ≡ fast.fetch (now (mem .entry)) regs s ⌝ }
 {
     let at = words::index_of(s.iptr) as usize;
     if at < mem.len() {
         let byte = words::byte_of(words::selector(s.iptr), mem[at]);
         return decoded(mem, regs, byte, s);
     }
-    functions::cold()
+    functions::decline()
 }
 
 // The next instruction as a common step, or that it is none. It is the step of a machine that is quiet (crate quiet).
-pub fn common_step(mem: &[u32], regs: [u32; REGISTERS]) -> Swift
-    ensures { λ r. ⌜ r ≡ swift.fetch (now (mem .entry)) regs (registers.coreOf regs) ⌝ }
+pub fn common_step(mem: &[u32], regs: [u32; REGISTERS]) -> FastStep
+    ensures { λ r. ⌜ r ≡ fast.fetch (now (mem .entry)) regs (registers.coreOf regs) ⌝ }
 {
     fetch(mem, regs, core_of(regs))
 }

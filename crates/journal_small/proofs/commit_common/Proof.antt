@@ -9,7 +9,7 @@ use Rattle.rules.specs.Registers.{withCore}
 use Rattle.rules.specs.Memory.{touched, stores}
 use Rattle.rules.specs.Journal.{recordLength, olds}
 use Rattle.rules.specs.declared.Answer.the-variants.{JournalFull}
-use Rattle.step_fast.specs.declared.Swift.{Swift}
+use Rattle.step_fast.specs.declared.FastStep.{FastStep}
 use Rattle.journal_small.specs.Count.{Counted, storesOf}
 use Rattle.journal_record.proofs.Frame.{frame-good}
 use Rattle.journal_record.proofs.Outcomes.{refusal-is, number-full, commit-full, commit-done}
@@ -20,7 +20,7 @@ use Rattle.journal_small.proofs.commit_common.Tie as tie
 good : (c : tie.Start) → (c .args .m .used ≤ length (c .args .journal .now)) × (recordLength 0 * c .args .m .depth ≤ c .args .m .used) × (length (c .args .journal .now) ≤ 65536)
 good c = let f = frame-good _ _ _ (c .pre .1) in (f .0, f .1, c .pre .0)
 
-length-of : (t : Swift) (n size : ℕ) → Counted size t n → length (touched size (storesOf t)) ≡ n
+length-of : (t : FastStep) (n size : ℕ) → Counted size t n → length (touched size (storesOf t)) ≡ n
 length-of t n size e = rw (← e .touches) (listed-length n (t .index) (e .few))
 
 is-full-requires : tie.Need-is-full-requires

@@ -1,11 +1,11 @@
 use Prim.Native.Nat.{_-_}
-use Rattle.step_fast.specs.Swift as swift
+use Rattle.step_fast.specs.Fast as fast
 use borrow.Author.Needs.{needs}
 use Rattle.step_fast.proofs.decoded.Statement.{statement}
 use Rattle.step_fast.proofs.decoded.Tie as tie
 
 returns : tie.Need-returns
-unfolding swift.decoded
+unfolding fast.decoded
 returns c = rw (← c .before .fetched .ensures) (c .decode .ensures)
 
 pub decoded-spec : {M : Type 1} → statement M

@@ -1,19 +1,19 @@
 use Prim.Native.Nat.{_-_}
 use Rattle.rules.proofs.Tests.{yes-lt, no-lt}
-use Rattle.step_fast.specs.Swift as swift
+use Rattle.step_fast.specs.Fast as fast
 use borrow.Author.Needs.{needs}
 use Rattle.step_fast.proofs.fetch.Statement.{statement}
 use Rattle.step_fast.proofs.fetch.Tie as tie
 
 returns : tie.Need-returns
-unfolding swift.fetch
+unfolding fast.fetch
 returns c =
     let k = c .before .before .before .before in
     rw (← k .before .index-of .ensures, yes-lt (k .if1 .taken), ← c .before .before .before .selector .ensures .0, ← c .before .byte-of .ensures .0) (c .decoded .ensures)
 
 returns-2 : tie.Need-returns-2
-unfolding swift.fetch
-returns-2 c = rw (← c .before .before .index-of .ensures, no-lt (c .before .if1 .left)) (c .cold .ensures)
+unfolding fast.fetch
+returns-2 c = rw (← c .before .before .index-of .ensures, no-lt (c .before .if1 .left)) (c .decline .ensures)
 
 pub fetch-spec : {M : Type 1} → statement M
 fetch-spec =

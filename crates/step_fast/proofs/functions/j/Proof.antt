@@ -1,16 +1,16 @@
 use Prim.Native.Nat.{_-_}
-use Rattle.step_fast.specs.Swift as swift
+use Rattle.step_fast.specs.Fast as fast
 use borrow.Author.Needs.{needs}
 use Rattle.step_fast.proofs.functions.j.Statement.{statement}
 use Rattle.step_fast.proofs.functions.j.Tie as tie
 
 returns : tie.Need-returns
-unfolding swift.j
-returns c = rw (← c .before .before .slice-ends .ensures, c .before .if1 .taken) (c .cold .ensures)
+unfolding fast.j
+returns c = rw (← c .before .before .slice-ends .ensures, c .before .if1 .taken) (c .decline .ensures)
 
 returns-2 : tie.Need-returns-2
-unfolding swift.j
-returns-2 c = rw (← c .before .before .before .slice-ends .ensures, c .before .before .if1 .left, ← c .before .at-byte .ensures) (c .plain .ensures)
+unfolding fast.j
+returns-2 c = rw (← c .before .before .before .slice-ends .ensures, c .before .before .if1 .left, ← c .before .at-byte .ensures) (c .finish .ensures)
 
 pub j-spec : {M : Type 1} → statement M
 j-spec =

@@ -1,5 +1,5 @@
 -- The common steps, as definitions on the seven registers, the rest of the registers and the memory. That they are the steps of rules is the
--- law `swift-step` in proofs/.
+-- law `fast-step` in proofs/.
 use Prim.Native.Nat.{ℕ, _/_, _^_}
 use mathlib.Core.Bool.{true, false}
 use mathlib.Core.List.{List, [], _∷_}
@@ -13,140 +13,116 @@ use Rattle.rules.specs.Memory.{Store, word}
 use Rattle.rules.specs.Work.{Work}
 use Rattle.rules.specs.declared.Core.{Core}
 use Rattle.step_pending.specs.NothingPending.{sliceEnds, nothingPending}
-use Rattle.step_fast.specs.declared.Swift.{Swift}
+use Rattle.core_table.specs.Selected.{registerOperation}
+use Rattle.core_table.specs.declared.Selected.{Selected}
+use Rattle.step_fast.specs.declared.FastStep.{FastStep}
 
 -- left to the engine (DECISIONS 54)
-abbrev pub cold : Swift
-cold = record { done = false; core = core 0 0 0 0 0 0 0; stores = false; index = 0; value = 0 }
+abbrev pub decline : FastStep
+decline = record { done = false; core = core 0 0 0 0 0 0 0; stores = false; index = 0; value = 0 }
 
 -- done without a store; Oreg is 0 afterwards (01, One step; DECISIONS 54)
-abbrev pub plain : Core → Swift
-plain s = record { done = true; core = withOreg 0 s; stores = false; index = 0; value = 0 }
+abbrev pub finish : Core → FastStep
+finish s = record { done = true; core = withOreg 0 s; stores = false; index = 0; value = 0 }
 
 -- done with the store of v in word i; Oreg is 0 afterwards (01, One step; DECISIONS 54)
-abbrev pub storing : ℕ → ℕ → Core → Swift
-storing i v s = record { done = true; core = withOreg 0 s; stores = true; index = i; value = v }
+abbrev pub finishStoring : ℕ → ℕ → Core → FastStep
+finishStoring i v s = record { done = true; core = withOreg 0 s; stores = true; index = i; value = v }
 
--- done, and Oreg is kept: a prefix (01, One step; DECISIONS 54)
-abbrev pub prefix : Core → Swift
+-- done, and Oreg is ifSameStatus: a prefix (01, One step; DECISIONS 54)
+abbrev pub prefix : Core → FastStep
 prefix s = record { done = true; core = s; stores = false; index = 0; value = 0 }
 
 -- done where Status is as before, so that nothing halts and no process is to be started; else left to the engine
 -- (01, One step; DECISIONS 54)
-unfoldable pub kept : ℕ → Swift → Swift
-kept status t = ifEq (t .core .status) status t cold
+unfoldable pub ifSameStatus : ℕ → FastStep → FastStep
+ifSameStatus status t = ifEq (t .core .status) status t decline
 
 -- ---- the functions, on the registers after the fetch
 
 module _ (m : List ℕ) where
   -- load local (000 1.11, ldl); outside memory it is left to the engine (DECISIONS 54)
-  unfoldable pub ldl : Core → Swift
+  unfoldable pub ldl : Core → FastStep
   ldl s =
       ifLt (index (atWord (wptrOf (s .wdesc)) (s .oreg))) (length m)
-      (plain (push (getD m (index (atWord (wptrOf (s .wdesc)) (s .oreg))) 0) s))
-      cold
+      (finish (push (getD m (index (atWord (wptrOf (s .wdesc)) (s .oreg))) 0) s))
+      decline
 
   -- load non-local (000 1.11, ldnl); outside memory it is left to the engine (DECISIONS 54)
-  unfoldable pub ldnl : Core → Swift
+  unfoldable pub ldnl : Core → FastStep
   ldnl s =
       ifLt (index (atWord (s .a) (s .oreg))) (length m)
-      (plain (withA (getD m (index (atWord (s .a) (s .oreg))) 0) s))
-      cold
+      (finish (withA (getD m (index (atWord (s .a) (s .oreg))) 0) s))
+      decline
 
   -- store local (000 1.11, stl); outside memory it is left to the engine (DECISIONS 54)
-  unfoldable pub stl : Core → Swift
+  unfoldable pub stl : Core → FastStep
   stl s =
       ifLt (index (atWord (wptrOf (s .wdesc)) (s .oreg))) (length m)
-      (storing (index (atWord (wptrOf (s .wdesc)) (s .oreg))) (s .a) (pop s))
-      cold
+      (finishStoring (index (atWord (wptrOf (s .wdesc)) (s .oreg))) (s .a) (pop s))
+      decline
 
   -- store non-local (000 1.11, stnl); outside memory it is left to the engine (DECISIONS 54)
-  unfoldable pub stnl : Core → Swift
+  unfoldable pub stnl : Core → FastStep
   stnl s =
       ifLt (index (atWord (s .a) (s .oreg))) (length m)
-      (storing (index (atWord (s .a) (s .oreg))) (s .b) (withA (s .c) s))
-      cold
+      (finishStoring (index (atWord (s .a) (s .oreg))) (s .b) (withA (s .c) s))
+      decline
 
 -- jump (000 1.11, j); where a slice ends it is left to the engine (DECISIONS 54)
-unfoldable pub j : List ℕ → Core → Swift
-j r s = pick (sliceEnds s r) cold (plain (withIptr (atByte (s .iptr) (s .oreg)) s))
+unfoldable pub j : List ℕ → Core → FastStep
+j r s = pick (sliceEnds s r) decline (finish (withIptr (atByte (s .iptr) (s .oreg)) s))
 
 -- ---- what works on the evaluation stack alone
 
 -- a function or operation on the seven registers alone, done where it leaves Status as it was (DECISIONS 54)
-abbrev pub quick : (Core → Core) → Core → Swift
-quick f s = kept (s .status) (plain (f s))
+abbrev pub registersOnly : (Core → Core) → Core → FastStep
+registersOnly f s = ifSameStatus (s .status) (finish (f s))
 
 -- a code that is not in the table here: left to the engine (DECISIONS 54)
-abbrev pub other : Core → Swift
-other s = cold
+abbrev pub other : Core → FastStep
+other s = decline
 
--- the operations done here, by their codes (000 1.11, Operations; DECISIONS 1, 54)
-unfoldable pub operations : List (ℕ × (Core → Swift))
-operations =
-    (0x00, quick stack.rev)
-    ∷ (0x02, quick stack.bsub)
-    ∷ (0x04, quick stack.diff)
-    ∷ (0x05, quick stack.add)
-    ∷ (0x06, quick stack.gcall)
-    ∷ (0x08, quick stack.prod)
-    ∷ (0x09, quick stack.gt)
-    ∷ (0x0A, quick stack.wsub)
-    ∷ (0x0C, quick stack.sub)
-    ∷ (0x13, quick stack.csub0)
-    ∷ (0x1B, quick stack.ldpi)
-    ∷ (0x1E, quick stack.ldpri)
-    ∷ (0x1F, quick stack.rem)
-    ∷ (0x2C, quick stack.div)
-    ∷ (0x32, quick stack.bitnot)
-    ∷ (0x33, quick stack.xor)
-    ∷ (0x34, quick stack.bcnt)
-    ∷ (0x3C, quick stack.gajw)
-    ∷ (0x3F, quick stack.wcnt)
-    ∷ (0x42, quick stack.mint)
-    ∷ (0x46, quick stack.and)
-    ∷ (0x4B, quick stack.or)
-    ∷ (0x4D, quick stack.ccnt1)
-    ∷ (0x52, quick stack.sum)
-    ∷ (0x53, quick stack.mul)
-    ∷ []
+-- what the table of operations on registers alone gave, done where it leaves Status as it was; else left to the engine (DECISIONS 54)
+abbrev pub ofTable : ℕ → Selected → FastStep
+ofTable status t = pick (t .found) (ifSameStatus status (finish (t .core))) decline
 
 -- the operation of a code, the whole operand register (000 1.8, Secondary; DECISIONS 1)
-unfoldable pub operate : ℕ → Core → Swift
-operate code s = look operations code other s
+unfoldable pub operate : ℕ → Core → FastStep
+operate code s = ofTable (s .status) (registerOperation code s)
 
 -- ---- decoding: the memory, all registers, the function's number, and the seven registers after the fetch
 
 -- prefix and negative prefix (000 1.11, pfix, nfix): they change only Iptr and Oreg (01, One step; DECISIONS 2)
-abbrev pub prefixing : (Core → Core) → Core → Swift
+abbrev pub prefixing : (Core → Core) → Core → FastStep
 prefixing f s = prefix (f s)
 
 -- operate: Oreg selects the operation (000 1.11, opr)
-abbrev pub opr : Core → Swift
+abbrev pub opr : Core → FastStep
 opr s = operate (s .oreg) s
 
 -- the functions done here, by their codes: all but call (000 1.11, Direct, Prefixing and Indirect Functions; DECISIONS 54)
-unfoldable pub functions : List ℕ → List ℕ → List (ℕ × (Core → Swift))
+unfoldable pub functions : List ℕ → List ℕ → List (ℕ × (Core → FastStep))
 functions m r =
     (0x0, j r)
-    ∷ (0x1, quick stack.ldlp)
+    ∷ (0x1, registersOnly stack.ldlp)
     ∷ (0x2, prefixing stack.pfix)
     ∷ (0x3, ldnl m)
-    ∷ (0x4, quick stack.ldc)
-    ∷ (0x5, quick stack.ldnlp)
+    ∷ (0x4, registersOnly stack.ldc)
+    ∷ (0x5, registersOnly stack.ldnlp)
     ∷ (0x6, prefixing stack.nfix)
     ∷ (0x7, ldl m)
-    ∷ (0x8, quick stack.adc)
-    ∷ (0xA, quick stack.cj)
-    ∷ (0xB, quick stack.ajw)
-    ∷ (0xC, quick stack.eqc)
+    ∷ (0x8, registersOnly stack.adc)
+    ∷ (0xA, registersOnly stack.cj)
+    ∷ (0xB, registersOnly stack.ajw)
+    ∷ (0xC, registersOnly stack.eqc)
     ∷ (0xD, stl m)
     ∷ (0xE, stnl m)
     ∷ (0xF, opr)
     ∷ []
 
 -- the function of a number, on the registers after the fetch (000 1.8, Primary and Secondary)
-unfoldable pub decode : List ℕ → List ℕ → ℕ → Core → Swift
+unfoldable pub decode : List ℕ → List ℕ → ℕ → Core → FastStep
 decode m r code s = look (functions m r) code other s
 
 -- ---- the whole of it
@@ -156,23 +132,23 @@ abbrev pub fetched : ℕ → Core → Core
 fetched byte s = withIptr (atByte (s .iptr) 1) (withOreg (withNibble byte (s .oreg)) s)
 
 -- the function is the byte's upper half (000 1.8, BuildNextInstruction; DECISIONS 2)
-unfoldable pub decoded : List ℕ → List ℕ → ℕ → Core → Swift
+unfoldable pub decoded : List ℕ → List ℕ → ℕ → Core → FastStep
 decoded m r byte s = decode m r (byte / 2 ^ 4) (fetched byte s)
 
 -- one instruction byte is fetched at Iptr (01, One step (c)); outside memory it is left to the engine (DECISIONS 54)
-unfoldable pub fetch : List ℕ → List ℕ → Core → Swift
+unfoldable pub fetch : List ℕ → List ℕ → Core → FastStep
 fetch m r s =
     ifLt (index (s .iptr)) (length m)
     (decoded m r (byteOf (selector (s .iptr)) (getD m (index (s .iptr)) 0)) s)
-    cold
+    decline
 
 -- a common step, or left to the engine (01, One step; DECISIONS 54)
-unfoldable pub swift : List ℕ → List ℕ → Swift
-swift m r = pick (nothingPending r) (fetch m r (coreOf r)) cold
+unfoldable pub fast : List ℕ → List ℕ → FastStep
+fast m r = pick (nothingPending r) (fetch m r (coreOf r)) decline
 
 -- the work that a common step stands for: its registers, and its store if it has one (DECISIONS 44, 54)
-abbrev pub swiftWork : List ℕ → Swift → Work
-swiftWork r t =
+abbrev pub fastWork : List ℕ → FastStep → Work
+fastWork r t =
     record {
       regs = withCore (t .core) r;
       stored = pick (t .stores) (word (t .index) (t .value) ∷ []) [];
