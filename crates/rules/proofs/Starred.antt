@@ -16,7 +16,7 @@ use Rattle.rules.specs.Scheduling.{actOnSNP, addToC, loopBack, countUp, 
 use Rattle.rules.specs.Data.{lb}
 use Rattle.rules.specs.Timers.{timerDue, timerReady}
 use Rattle.rules.specs.Channels.{requestFrom, requested}
-use Rattle.rules.specs.Operations.{operations, operate, functions, function}
+use Rattle.rules.specs.Operations.{registerOperations, otherOperations, operations, operate, functions, function}
 use Rattle.rules.specs.Step.{haltIfAsked, haltOnError, fetched, execute, decode, instruction, instructionUnlessIdle, timersFirst, channelsFirst, choose}
 use Rattle.rules.specs.Step as steps
 use Rattle.rules.specs.Journal.{olds, recordOf, boundsBad}
@@ -55,5 +55,5 @@ neither-later t h =
 -- ---- the table, by computation, and the law (01, What the contracts have to say)
 
 pub starred-hold : (every starred ≡ true) × NeitherLater
-unfolding starred every runs leads starting has with-settings step checked commitOrRefuse recorded sizeBad memorySizeBad journalSizeBad boundsBad recordOf olds touched touchedFrom hit touches fresh codeBad freshRegs freshMemory freshWord codeWord ifLt ifLe ifEq steps.step choose channelsFirst timersFirst instructionUnlessIdle instruction decode execute fetched haltOnError haltIfAsked function functions operate operations requested requestFrom timerReady timerDue put raise lower putCore coreOf withCore wordAt byteAt access refuseAt append storeWord rIndexWord rIndexByte wIndexWord stores storing actOnSNP overflowCheck overflows restoreToRange sign positive later csub0 ccnt1 norm leadingZeros lend loopOn loopBack countUp countDown storeCount addToC timeSlice sliceIfRunning j lb
+unfolding starred every runs leads starting has with-settings step checked commitOrRefuse recorded sizeBad memorySizeBad journalSizeBad boundsBad recordOf olds touched touchedFrom hit touches fresh codeBad freshRegs freshMemory freshWord codeWord ifLt ifLe ifEq steps.step choose channelsFirst timersFirst instructionUnlessIdle instruction decode execute fetched haltOnError haltIfAsked function functions operate registerOperations otherOperations operations requested requestFrom timerReady timerDue put raise lower putCore coreOf withCore wordAt byteAt access refuseAt append storeWord rIndexWord rIndexByte wIndexWord stores storing actOnSNP overflowCheck overflows restoreToRange sign positive later csub0 ccnt1 norm leadingZeros lend loopOn loopBack countUp countDown storeCount addToC timeSlice sliceIfRunning j lb
 starred-hold = (refl, neither-later)
