@@ -84,7 +84,7 @@ fn word_moved(w: Plan, mem: &[u32], i: u32) -> u32
     b0 + 256 * b1 + 65536 * b2 + 16777216 * b3
 }
 
-// Reads word i after the move, or before the single stores that follow it where no move lies inside memory.
+// Reads word i after the single stores before the move, and after the move if the plan has one inside memory.
 pub fn word_between(w: Plan, mem: &[u32], i: u32) -> u32
     requires { ⌜ (i < length (now mem)) × (i < 1073741824) × (w .cut ≤ 16) ⌝ }
     ensures { λ r. ⌜ r ≡ getD (stores (stores (now (mem .entry)) (take (w .cut) (singles (w .ix) (w .vs)))) (moves (w .source) (w .target) (w .count))) i 0 ⌝ }
