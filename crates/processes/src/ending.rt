@@ -1,4 +1,4 @@
-// End process (000 1.11). A points at two words: the Iptr of the process that goes on after all have ended, and the count of those that have not.
+// End process (000 1.11). A points at two words: the Iptr with which the last process goes on, and the count of processes that have not ended.
 use memory::loads::word_at;
 use memory::store::load_word;
 use memory::store::r_index_word;
