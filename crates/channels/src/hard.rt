@@ -40,7 +40,7 @@ fn hard_start(w: Plan, mem: &[u32], c: usize) -> Plan
     start_transfer(save_iptr(claimed, mem), c)
 }
 
-// Starts an output and the next process. A count of 0 touches neither link nor channel word, and the process goes on (DECISIONS 28).
+// Starts an output and sets GotoSNPBit. A count of 0 touches neither link nor channel word, and the process goes on (DECISIONS 28).
 pub fn hard_output(w: Plan, mem: &[u32], c: usize) -> Plan
     requires { ⌜ (c < registers.linkChans) × Room 2 w ⌝ }
     ensures { λ r. ⌜ (view r ≡ channels.hardOutput (now (mem .entry)) c (view w)) × Grown 2 w r ⌝ }
@@ -51,7 +51,7 @@ pub fn hard_output(w: Plan, mem: &[u32], c: usize) -> Plan
     goto_snp(hard_start(w, mem, c))
 }
 
-// Does what a give of the held byte, or a held event, would do (DECISIONS 29).
+// Does with what is held what a give or an event would do (DECISIONS 29).
 fn meet_held(w: Plan, mem: &[u32], c: usize) -> Plan
     requires { ⌜ (c < registers.linkChans) × Room 1 w ⌝ }
     ensures { λ r. ⌜ (view r ≡ channels.meetHeld (now (mem .entry)) c (view w)) × Grown 1 w r ⌝ }
@@ -87,7 +87,7 @@ fn hard_input_start(w: Plan, mem: &[u32], c: usize) -> Plan
     hard_input_held(w, mem, c)
 }
 
-// Starts an input and the next process; a count of 0 does nothing (DECISIONS 28).
+// Starts an input and sets GotoSNPBit; a count of 0 does nothing (DECISIONS 28).
 pub fn hard_input(w: Plan, mem: &[u32], c: usize) -> Plan
     requires { ⌜ (c < registers.linkChans) × Room 3 w ⌝ }
     ensures { λ r. ⌜ (view r ≡ channels.hardInput (now (mem .entry)) c (view w)) × Grown 3 w r ⌝ }

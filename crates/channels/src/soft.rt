@@ -21,7 +21,7 @@ fn save_regs_pending_soft_io(w: Plan, mem: &[u32]) -> Plan
     w_index_word(save_iptr(claimed, mem), mem, wptr, POINTER_S, w.regs[CREG])
 }
 
-// Waits for a partner.
+// Saves the registers for the partner and sets GotoSNPBit.
 pub fn soft_wait(w: Plan, mem: &[u32]) -> Plan
     requires { ⌜ Room 3 w ⌝ }
     ensures { λ r. ⌜ (view r ≡ channels.softWait (now (mem .entry)) (view w)) × Grown 3 w r ⌝ }

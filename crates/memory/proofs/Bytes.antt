@@ -54,8 +54,8 @@ with-small (suc (suc (suc zero))) b w h k l = omega arith
 with-small (suc (suc (suc (suc j)))) b w h k l = absurd (omega arith)
 
 -- a word is the sum of its four bytes
-four : (w : ℕ) → w < 2 ^ 32 → byteOf 0 w + 256 * byteOf 1 w + 65536 * byteOf 2 w + 16777216 * byteOf 3 w ≡ w
-four w h =
+sum-of-bytes : (w : ℕ) → w < 2 ^ 32 → byteOf 0 w + 256 * byteOf 1 w + 65536 * byteOf 2 w + 16777216 * byteOf 3 w ≡ w
+sum-of-bytes w h =
     let a : w / 65536 ≡ w / 256 / 256 = omega arith in
     let b : w / 16777216 ≡ w / 65536 / 256 = omega arith in
     let c : w / 16777216 % 256 ≡ w / 16777216 = mod-eq-of-lt (omega arith) in
@@ -108,4 +108,4 @@ from-bytes m i a b c d h p q r s =
     let q′ : b ≡ byteOf 1 (getD m i 0) = q ∙ byte-at m i 1 (omega arith) in
     let r′ : c ≡ byteOf 2 (getD m i 0) = r ∙ byte-at m i 2 (omega arith) in
     let s′ : d ≡ byteOf 3 (getD m i 0) = s ∙ byte-at m i 3 (omega arith) in
-    rw (p′, q′, r′, s′) (four (getD m i 0) h)
+    rw (p′, q′, r′, s′) (sum-of-bytes (getD m i 0) h)

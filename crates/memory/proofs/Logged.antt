@@ -33,20 +33,20 @@ module _ (ix vs : List ℕ) (lx : length ix ≡ 16) (lv : length vs ≡ 16) wher
   abbrev ss : List Store
   ss = singles ix vs
 
-  both : length ix ≡ length vs
-  both = omega arith
+  equal-lengths : length ix ≡ length vs
+  equal-lengths = omega arith
 
-  sixteen : length ss ≡ 16
-  sixteen = singles-length ix vs both ∙ lx
+  singles-sixteen : length ss ≡ 16
+  singles-sixteen = singles-length ix vs equal-lengths ∙ lx
 
   -- splits off the last of the single stores f to k - 1
   last-one : (f k : ℕ) → f < k → k ≤ 16 → slice f k ss ≡ slice f (k - 1) ss ++ (word (getD ix (k - 1) 0) (getD vs (k - 1) 0) ∷ [])
   last-one f zero z h = absurd (omega arith)
   last-one f (suc k) z h =
-      let q : k < length ss = omega (arith, sixteen) in
+      let q : k < length ss = omega (arith, singles-sixteen) in
       let e : suc k - 1 ≡ k = omega arith in
       let l : f ≤ length (take k ss) = omega (arith, length-take-le k ss (omega arith)) in
-      rw (e, take-suc ss k (word 0 0) q, singles-at ix vs k both)
+      rw (e, take-suc ss k (word 0 0) q, singles-at ix vs k equal-lengths)
       (drop-append-le f (take k ss) (word (getD ix k 0) (getD vs k 0) ∷ []) l)
 
   -- ---- a read after the single stores f to k - 1, by the last of them
@@ -69,7 +69,7 @@ module _ (ix vs : List ℕ) (lx : length ix ≡ 16) (lv : length vs ≡ 16) wher
       → logged (set ix n i) (set vs n v) (n + 1) cut s d c ≡ logged ix vs n cut s d c ++ (word i v ∷ [])
   unfolding logged
   logged-more n cut s d c i v h k =
-      let q : n < length ss = omega (arith, sixteen) in
+      let q : n < length ss = omega (arith, singles-sixteen) in
       let l : cut ≤ length (take n ss) = omega (arith, length-take-le n ss (omega arith)) in
       let last : List Store = word i v ∷ [] in
       rw (

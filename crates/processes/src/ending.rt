@@ -26,7 +26,7 @@ fn end_last(w: Plan, mem: &[u32]) -> Plan
     )
 }
 
-// Stores the count less 1, wrapping (DECISIONS 7), and starts the next process.
+// Stores the count less 1, wrapping (DECISIONS 7), and sets GotoSNPBit.
 fn end_one(w: Plan, mem: &[u32], count: u32) -> Plan
     requires { ⌜ Room 1 w ⌝ }
     ensures { λ r. ⌜ (view r ≡ scheduling.endOne (now (mem .entry)) count (view w)) × Grown 1 w r ⌝ }

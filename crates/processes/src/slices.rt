@@ -10,7 +10,7 @@ ghost use mathlib.Core.Path.{_≡_};
 ghost use Rattle.plan.specs.View.{view, Room, Grown};
 ghost use Rattle.rules.specs.Scheduling as scheduling;
 
-// Ends the slice: saves Iptr, calls Run on the process, and starts the next process.
+// Ends the slice (000 1.9): saves Iptr, calls Run on the process and sets GotoSNPBit.
 fn slice_out(w: Plan, mem: &[u32]) -> Plan
     requires { ⌜ Room 8 w ⌝ }
     ensures { λ r. ⌜ (view r ≡ scheduling.sliceOut (now (mem .entry)) (view w)) × Grown 8 w r ⌝ }

@@ -39,7 +39,8 @@ fn delete_link(w: Plan, mem: &[u32], previous: u32) -> Plan
     w_index_word(linked, mem, wptr, TLINK_S, TIME_NOT_SET)
 }
 
-// DeleteFinalStep (000 1.10): unlinks the process, and sets the next time of the queue. previous is the address of the word that points to it.
+// DeleteFinalStep (000 1.10): unlinks the process, and sets the next time of the queue. previous is the address of the word that points to the
+// process.
 fn delete_final_step(w: Plan, mem: &[u32], previous: u32) -> Plan
     requires { ⌜ Room 2 w ⌝ }
     ensures { λ r. ⌜ (view r ≡ timers.deleteFinalStep (now (mem .entry)) previous (view w)) × Grown 2 w r ⌝ }
@@ -71,7 +72,7 @@ fn delete_walk(w: Plan, mem: &[u32], turns: usize, previous: u32) -> Plan
     refuse(at, STOP)
 }
 
-// DeleteFirstStep (000 1.10): disables the timer, and walks its queue with a budget of two turns more than memory has words.
+// DeleteFirstStep (000 1.10): disables the timer and walks its queue. The budget is that of an insertion.
 pub fn delete_first_step(w: Plan, mem: &[u32]) -> Plan
     requires { ⌜ Room 2 w ⌝ }
     ensures { λ r. ⌜ (view r ≡ timers.deleteFirstStep (now (mem .entry)) (view w)) × Grown 2 w r ⌝ }

@@ -74,7 +74,7 @@ pub fn enbt(w: Plan, mem: &[u32]) -> Plan
     drop_b(enbt_guard(w, mem))
 }
 
-// Selects the guard where the alternative's time is later than the guard's time C, else answers false.
+// Selects the guard where the time at which the process became ready is after the guard's time C, else answers false.
 fn dist_ready(w: Plan, mem: &[u32], time: u32) -> Plan
     requires { ⌜ Room 1 w ⌝ }
     ensures { λ r. ⌜ (view r ≡ timers.distReady (now (mem .entry)) time (view w)) × Grown 1 w r ⌝ }

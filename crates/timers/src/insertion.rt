@@ -19,7 +19,7 @@ ghost use mathlib.Core.Path.{_≡_};
 ghost use Rattle.rules.specs.Timers as timers;
 ghost use Rattle.plan.specs.View.{view, Room, Grown};
 
-// Sets the next time to that of the front process B, and starts the next process (000 1.10, InsertFinalStep).
+// Sets the next time to that of the front process B, and sets GotoSNPBit (000 1.10, InsertFinalStep).
 fn insert_next(w: Plan, mem: &[u32]) -> Plan
     requires { ⌜ Room 0 w ⌝ }
     ensures { λ r. ⌜ (view r ≡ timers.insertNext (now (mem .entry)) (view w)) × Grown 0 w r ⌝ }
@@ -49,8 +49,8 @@ fn insert_final_step(w: Plan, mem: &[u32], previous: u32, subsequent: u32) -> Pl
     insert_next(r_index_word(linked, mem, TIMER_BASE, priority, BREG), mem)
 }
 
-// InsertTest and InsertMiddleStep (000 1.10): walks past the processes that time is later than, and inserts; refuses with STOP where the budget
-// runs out.
+// InsertTest and InsertMiddleStep (000 1.10): walks on while time is after that of the next process, then inserts; refuses with STOP where the
+// budget runs out.
 fn insert_walk(w: Plan, mem: &[u32], turns: usize, time: u32, previous: u32) -> Plan
     requires { ⌜ Room 3 w ⌝ }
     ensures { λ r. ⌜ (view r ≡ timers.insertWalk (now (mem .entry)) turns time previous (view w)) × Grown 3 w r ⌝ }
@@ -77,8 +77,8 @@ fn insert_walk(w: Plan, mem: &[u32], turns: usize, time: u32, previous: u32) -> 
     refuse(at, STOP)
 }
 
-// InsertFirstStep (000 1.10): marks the process as waiting, stores its time and walks the queue. A queue without a ring is walked in fewer turns
-// than memory's words and two (DECISIONS 27).
+// InsertFirstStep (000 1.10): marks the process as waiting, stores its time and walks the queue. The budget is two turns more than memory has
+// words; a queue without a ring needs fewer (DECISIONS 27).
 pub fn insert_first_step(w: Plan, mem: &[u32]) -> Plan
     requires { ⌜ Room 5 w ⌝ }
     ensures { λ r. ⌜ (view r ≡ timers.insertFirstStep (now (mem .entry)) (view w)) × Grown 5 w r ⌝ }
