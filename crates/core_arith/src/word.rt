@@ -1,4 +1,4 @@
-// Arithmetic of one word (000 1.11), on the seven registers of rules::Core.
+// Arithmetic of one word (000 1.11).
 use crate::signed::biased;
 use crate::signed::checked;
 use crate::signed::magnitude;
@@ -47,7 +47,7 @@ pub fn mul(s: Core) -> Core
     checked(p, 0, s)
 }
 
-// By 0, or the least number by -1.
+// Tests for a division with no result: by 0, or MinInt by -1.
 pub fn undivided(s: Core) -> bool
     ensures { λ r. ⌜ r ≡ stack.undivided s ⌝ }
 {
@@ -60,7 +60,7 @@ pub fn undivided(s: Core) -> bool
     s.a == 0
 }
 
-// What div and rem do then.
+// Sets the error flag and B := C: div and rem where the division has no result.
 pub fn refused(s: Core) -> Core
     ensures { λ r. ⌜ r ≡ core.setErrorFlag (core.withB (s .c) s) ⌝ }
 {
