@@ -72,7 +72,7 @@ moved-split (suc a) b m s d =
     let f : d + 1 + a ≡ d + suc a = omega arith in
     rw (suc-add a b, ← e, ← f) (moved-split a b (setByteIn m d (byteIn m s)) (s + 1) (d + 1))
 
--- a turn of the move, as the code makes it: its byte b, and the word w that it stores
+-- a turn of the code's loop: b is the byte read, w the word stored
 pub moved-cut :
     (m : List ℕ) (s d n b w : ℕ)
     → 0 < n

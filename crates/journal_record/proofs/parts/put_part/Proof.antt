@@ -29,7 +29,7 @@ Inv-loop journal₀ mem f t at ix w₀ k₀ journal w k = Turn journal₀ mem ix
 abbrev μ-loop : tie.MeasureT-loop
 μ-loop journal₀ mem f t at ix w₀ k₀ journal w k = t - k
 
--- the words from k on are the one at k and those after it
+-- the words from k on are the word at k and the words after it
 cut-k : (c : tie.In-loop Inv-loop μ-loop) → slice (c .before .loop .k) (c .before .before .args .t) (c .before .before .args .t3) ≡ getD (c .before .before .args .t3) (c .before .loop .k) 0 ∷ slice (c .before .loop .k + 1) (c .before .before .args .t) (c .before .before .args .t3)
 cut-k c =
     let L = c .before in
