@@ -61,7 +61,7 @@ pub fn undivided(s: Core) -> bool
 }
 
 // Sets the error flag and B := C: div and rem where the division has no result.
-pub fn refused(s: Core) -> Core
+pub fn division_error(s: Core) -> Core
     ensures { λ r. ⌜ r ≡ core.setErrorFlag (core.withB (s .c) s) ⌝ }
 {
     let mut t = s;
@@ -73,7 +73,7 @@ pub fn div(s: Core) -> Core
     ensures { λ r. ⌜ r ≡ stack.div s ⌝ }
 {
     if undivided(s) {
-        return refused(s);
+        return division_error(s);
     }
     result(quotient(s.b, s.a), s)
 }
@@ -82,7 +82,7 @@ pub fn rem(s: Core) -> Core
     ensures { λ r. ⌜ r ≡ stack.rem s ⌝ }
 {
     if undivided(s) {
-        return refused(s);
+        return division_error(s);
     }
     result(remainder(s.b, s.a), s)
 }

@@ -65,7 +65,7 @@ module _ (s : Whole) (i : Emptied s) (acts : List (Act Call)) where
       ∙ any.history-stands t414 Ok sound start (i .count) (s .journal) acts
       ∙ standing-is acts
 
-  -- registers and memory, without a journal: each call's work on what the calls before it left
+  -- registers and memory are those after the work of the standing calls, without a journal
   pub history-work : view (run acts s) .core ≡ generic.replay t414 start left
   history-work =
       ap (λ (t : State Plain). t .core) (sym (run-is acts))

@@ -48,8 +48,8 @@ pub record Done (C : Type 0) : Type 0 where
   pub state : State C
 
 -- the number of JournalBad (01, Answers by number)
-abbrev pub journalSizeBad : ℕ
-journalSizeBad = 4
+abbrev pub journalBad : ℕ
+journalBad = 4
 
 -- the number of NothingToUndo (01, Answers by number)
 abbrev pub nothingToUndo : ℕ
@@ -77,7 +77,7 @@ module _ {C : Type 0} where
 
   -- undoes the last record, writes no journal word; 4 where the record is bad (01, The journal; 01, Answers by number)
   abbrev pub pop : State C → Option (C × ℕ) → Done C
-  pop s none = record { answer = no-way journalSizeBad; state = s }
+  pop s none = record { answer = no-way journalBad; state = s }
   pop s (some p) =
       record { answer = done 0; state = record { core = p .0; depth = s .depth - 1; used = p .1; journal = s .journal } }
 

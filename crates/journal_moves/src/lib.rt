@@ -72,7 +72,7 @@ fn move_words(mem: &mut [u32], src: usize, dst: usize, n: usize)
 }
 
 // Moves n bytes to a word boundary.
-fn move_level(mem: &mut [u32], src: usize, dst: usize, n: usize)
+fn move_aligned(mem: &mut [u32], src: usize, dst: usize, n: usize)
     requires { ⌜ (dst % 4 ≡ 0) × (src + n ≤ 4 * length (now mem)) × (dst + n ≤ 4 * length (now mem)) × (src < dst → src + 4 ≤ dst) ⌝ }
     ensures { λ _. ⌜ now (mem .exit) ≡ moved (now (mem .entry)) src dst n ⌝ }
 {
@@ -92,7 +92,7 @@ fn move_parts(mem: &mut [u32], src: usize, dst: usize, head: usize, rest: usize)
     let s = src + head;
     let d = dst + head;
     move_bytes(mem, src, dst, head);
-    move_level(mem, s, d, rest);
+    move_aligned(mem, s, d, rest);
 }
 
 // Moves n bytes, a word at a time. A move up by 1 to 3 bytes, which repeats bytes inside a word, is made one by one.

@@ -75,7 +75,7 @@ fn count(t: FastStep, size: usize) -> usize
 }
 
 // Writes the pair of word i and stores v there; does nothing where n is 0.
-fn make(mem: &mut [u32], journal: &mut [u32], n: usize, i: u32, v: u32, at: usize)
+fn store_recorded(mem: &mut [u32], journal: &mut [u32], n: usize, i: u32, v: u32, at: usize)
     requires { ⌜ (at + 2 * n ≤ length (now journal)) × (0 < n → i < length (now mem)) ⌝ }
     ensures { λ _. ⌜ (now (journal .exit) ≡ sets (now (journal .entry)) at (olds (now (mem .entry)) (listed n i))) × (now (mem .exit) ≡ made n i v (now (mem .entry))) ⌝ }
 {
@@ -98,7 +98,7 @@ pub fn commit_common(m: Machine, t: FastStep, mem: &mut [u32], journal: &mut [u3
     }
     let old = m.regs;
     let at = used + 2 * n;
-    make(mem, journal, n, t.index, t.value, used);
+    store_recorded(mem, journal, n, t.index, t.value, used);
     put_tail(journal, old, n as u32, at);
     let regs = with_core(old, t.core);
     let machine = Machine {

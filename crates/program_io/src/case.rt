@@ -191,7 +191,7 @@ fn long(low: u32, high: u32) -> usize {
 }
 
 // Reads the machine of the case at byte at of input, as the reply of an accepted call.
-fn begun(input: &[u8], at: usize) -> Reply
+fn read_machine(input: &[u8], at: usize) -> Reply
     requires { ⌜ at + caseHead ≤ length (now input) ⌝ }
 {
     let mut w = [0u32; 4];
@@ -218,7 +218,7 @@ pub fn load(input: &[u8], at: usize, mem: &mut [u32], journal: &mut [u32]) -> Re
     let second = at + CASE_HEAD + 4 * mem.len();
     take_words(input, at + CASE_HEAD, mem);
     take_words(input, second, journal);
-    begun(input, at)
+    read_machine(input, at)
 }
 
 // Writes the head of a response: all but the words of memory and journal.

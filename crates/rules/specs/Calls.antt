@@ -56,7 +56,7 @@ abbrev pub outcomeOf : Reply → List ℕ → List ℕ → Outcome
 outcomeOf r mem j =
     record { answer = numberOf (r .answer); byte = r .byte; machine = r .machine; memory = mem; journal = j }
 
--- a refusal alters nothing, and its byte is 0 (01, Answers by number)
+-- the outcome of a refused call: nothing is changed, and the byte is 0 (01, Answers by number)
 abbrev pub refused : ℕ → Machine → List ℕ → List ℕ → Outcome
 refused n m mem j = record { answer = n; byte = 0; machine = m; memory = mem; journal = j }
 

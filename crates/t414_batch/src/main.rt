@@ -13,7 +13,7 @@
 //     bytes                the code, and zero bytes up to a multiple of 4
 // A response:
 //     u32 answer           0 for done, else 01's number of the refusal
-//     u32 byte             what take hands over, else 0
+//     u32 byte             of an accepted take, else 0
 //     u64 depth, u64 used
 //     u32 each             the registers, the memory, the journal
 //
@@ -138,7 +138,7 @@ fn reply_to(
 
 // Loads the case h at byte at of input and makes its call, then the rounds, of which only a repeat has any. mem and journal are
 // as long as the case says.
-fn ask(h: Head, input: &[u8], at: usize, mem: &mut [u32], journal: &mut [u32]) -> Reply
+fn make_call(h: Head, input: &[u8], at: usize, mem: &mut [u32], journal: &mut [u32]) -> Reply
     requires { ⌜ (at + h .end ≤ length (now input)) × (h .from ≤ h .code) × (h .code ≤ h .end) ⌝ }
     requires { ⌜ h .from ≡ caseHead + 4 * length (now mem) + 4 * length (now journal) ⌝ }
 {
@@ -165,12 +165,18 @@ fn answered(
     requires { ⌜ (h .from ≡ caseHead + 4 * length (now mem) + 4 * length (now journal)) × (h .from ≤ h .code) × (h .code ≤ h .end) × (h .end ≤ h .size) ⌝ }
     ensures { λ r. ⌜ (r .at ≤ r .end) × (r .end ≡ p .end) × (r .out ≤ length (now (output .exit))) ⌝ }
 {
-    let r = ask(h, input, p.at, mem, journal);
+    let r = make_call(h, input, p.at, mem, journal);
     place::answered(p, h.size, r, mem, journal, output)
 }
 
 // Answers the case at the place p where it can be answered; else returns the place with the reason.
-fn one(p: Place, input: &[u8], output: &mut [u8], mem: &mut [u32], journal: &mut [u32]) -> Place
+fn answer_case(
+    p: Place,
+    input: &[u8],
+    output: &mut [u8],
+    mem: &mut [u32],
+    journal: &mut [u32],
+) -> Place
     requires { ⌜ (p .at ≤ p .end) × (p .end ≤ length (now input)) × (p .out + mostResponse ≤ length (now output)) ⌝ }
     requires { ⌜ (mostWords ≤ length (now mem)) × (mostJournal ≤ length (now journal)) ⌝ }
     ensures { λ r. ⌜ (r .at ≤ r .end) × (r .end ≡ p .end) × (r .out ≤ length (now (output .exit))) ⌝ }
@@ -192,14 +198,14 @@ fn one(p: Place, input: &[u8], output: &mut [u8], mem: &mut [u32], journal: &mut
 }
 
 // Answers cases until there is a reason to stop. The input has no bound, so the loop has a count of turns that no run can use up.
-fn all(input: &mut [u8], output: &mut [u8], mem: &mut [u32], journal: &mut [u32]) -> Place
+fn answer_all(input: &mut [u8], output: &mut [u8], mem: &mut [u32], journal: &mut [u32]) -> Place
     requires { ⌜ (mostResponse ≤ length (now output)) × (mostWords ≤ length (now mem)) × (mostJournal ≤ length (now journal)) ⌝ }
     ensures { λ r. ⌜ r .out ≤ length (now (output .exit)) ⌝ }
 {
     let mut p = place::start();
     let mut turns = u64::MAX;
     while turns > 0 {
-        p = one(p, input, output, mem, journal);
+        p = answer_case(p, input, output, mem, journal);
         p = place::ready(p, input, output);
         turns = place::next(p, turns);
     }
@@ -211,6 +217,6 @@ fn main() {
     let mut output = room::bytes();
     let mut mem = room::memory();
     let mut journal = room::journal();
-    let p = all(&mut input, &mut output, &mut mem, &mut journal);
+    let p = answer_all(&mut input, &mut output, &mut mem, &mut journal);
     place::finish(p, &output);
 }

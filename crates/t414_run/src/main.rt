@@ -45,7 +45,7 @@ fn run(m: Machine, mem: &mut [u32], journal: &mut [u32]) -> Tally
 }
 
 // Makes a fresh machine with the code and runs it. A refused fresh returns a machine that is all 0.
-fn told(mem: &mut [u32], journal: &mut [u32], code: &[u8]) -> Tally
+fn run_code(mem: &mut [u32], journal: &mut [u32], code: &[u8]) -> Tally
     ensures { λ r. ⌜ resultOf r (now (mem .exit)) (now (journal .exit)) ≡ program.program (now (code .entry)) (now (mem .entry)) (now (journal .entry)) ⌝ }
 {
     let reply = t414::fresh(mem, journal, code);
@@ -64,9 +64,9 @@ fn told(mem: &mut [u32], journal: &mut [u32], code: &[u8]) -> Tally
 
 fn print_tally(t: Tally) {
     let m = t.machine;
-    let told = lines::line(m, t.steps, t.refusal);
-    let text = told.text;
-    let n = told.size;
+    let written = lines::line(m, t.steps, t.refusal);
+    let text = written.text;
+    let n = written.size;
     io::write_all(1, &text[..n]);
 }
 
@@ -75,5 +75,5 @@ fn main() {
     let mut journal = [0u32; 8192];
     let mut code = [0u8; 4021];
     let got = io::read_full(0, &mut code);
-    print_tally(told(&mut mem, &mut journal, &code[..got]));
+    print_tally(run_code(&mut mem, &mut journal, &code[..got]));
 }
