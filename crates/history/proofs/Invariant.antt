@@ -11,7 +11,7 @@ use lib.Dec.{ltb, eqb}
 use lib.ListN.{length, take, drop, replicate, length-append}
 use lib.Seq.{sets, sets-eq, length-sets, take-at, take-append-seam, length-take-le, take-take}
 use Rattle.history.specs.Machine.{Effect, refused, accepted, Machine, State, Act, call, undo, Answer, no-way, done, Done}
-use Rattle.history.specs.Machine.{push, settle, undoing, guarded, act, after, recorded, stack, inOrder, perform, run, standing, replay, words, empty, Laws}
+use Rattle.history.specs.Machine.{push, settle, undoing, guarded, act, recorded, stack, inOrder, perform, run, standing, replay, words, empty, Laws}
 
 -- the words before i stay, and the words of w come after them
 pub take-sets : (l : List ℕ) (i : ℕ) (w : List ℕ) → i + length w ≤ length l → take (i + length w) (sets l i w) ≡ take i l ++ w

@@ -2,7 +2,6 @@ use mathlib.Core.Path.{sym}
 use lib.Seq.{length-take-le}
 use native.Mathlib.Omega.{arith}
 use borrow.Author.Needs.{needs}
-use borrow.Author.Needs.{needs}
 use Rattle.t414_batch.proofs.answer_case.Statement.{statement}
 use Rattle.t414_batch.proofs.answer_case.Tie as tie
 
