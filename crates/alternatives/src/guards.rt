@@ -1,4 +1,4 @@
-// Channel guards (000 1.11): enable channel and disable channel.
+// Channel guards: enable channel and disable channel (000 1.11).
 use crate::waits::state_ready;
 use memory::loads::word_at;
 use memory::store::load_word;
@@ -19,6 +19,7 @@ ghost use Rattle.rules.specs.Registers as registers;
 ghost use Rattle.rules.specs.Channels as channels;
 ghost use Rattle.plan.specs.View.{view, Room, Grown};
 
+// Stores Wdesc in the channel word.
 fn claim_channel(w: Plan, mem: &[u32]) -> Plan
     requires { ⌜ Room 1 w ⌝ }
     ensures { λ r. ⌜ (view r ≡ channels.claimChannel (now (mem .entry)) (view w)) × Grown 1 w r ⌝ }
@@ -26,6 +27,7 @@ fn claim_channel(w: Plan, mem: &[u32]) -> Plan
     w_index_word(w, mem, w.regs[BREG], 0, w.regs[WDESC_REG])
 }
 
+// Claims a free channel; a partner in the channel word makes the alternative ready.
 fn enbc_soft(w: Plan, mem: &[u32], content: u32) -> Plan
     requires { ⌜ Room 1 w ⌝ }
     ensures { λ r. ⌜ (view r ≡ channels.enbcSoft (now (mem .entry)) content (view w)) × Grown 1 w r ⌝ }
@@ -39,7 +41,7 @@ fn enbc_soft(w: Plan, mem: &[u32], content: u32) -> Plan
     state_ready(w, mem)
 }
 
-// A byte held is ready at once; with none held enabled is set (DECISIONS 30).
+// Makes the alternative ready where a byte is held, else sets enabled and claims the channel (DECISIONS 30).
 fn enbc_hard(w: Plan, mem: &[u32], c: usize) -> Plan
     requires { ⌜ (c < registers.linkChans) × Room 1 w ⌝ }
     ensures { λ r. ⌜ (view r ≡ channels.enbcHard (now (mem .entry)) c (view w)) × Grown 1 w r ⌝ }
@@ -51,6 +53,7 @@ fn enbc_hard(w: Plan, mem: &[u32], c: usize) -> Plan
     state_ready(w, mem)
 }
 
+// Decides by the channel number between a hard and a soft channel.
 fn enbc_channel(w: Plan, mem: &[u32]) -> Plan
     requires { ⌜ Room 1 w ⌝ }
     ensures { λ r. ⌜ (view r ≡ channels.enbcChannel (now (mem .entry)) (view w)) × Grown 1 w r ⌝ }
@@ -64,6 +67,7 @@ fn enbc_channel(w: Plan, mem: &[u32]) -> Plan
     enbc_soft(load_word(w, mem, a), mem, content)
 }
 
+// Enables the channel where condition A is not false (DECISIONS 13).
 fn enbc_guard(w: Plan, mem: &[u32]) -> Plan
     requires { ⌜ Room 1 w ⌝ }
     ensures { λ r. ⌜ (view r ≡ channels.enbcGuard (now (mem .entry)) (view w)) × Grown 1 w r ⌝ }
@@ -74,6 +78,7 @@ fn enbc_guard(w: Plan, mem: &[u32]) -> Plan
     enbc_channel(w, mem)
 }
 
+// Enables a guard with condition A on channel B (000 1.11, enable channel).
 pub fn enbc(w: Plan, mem: &[u32]) -> Plan
     requires { ⌜ Room 1 w ⌝ }
     ensures { λ r. ⌜ (view r ≡ channels.enbc (now (mem .entry)) (view w)) × Grown 1 w r ⌝ }
@@ -81,6 +86,7 @@ pub fn enbc(w: Plan, mem: &[u32]) -> Plan
     drop_b(enbc_guard(w, mem))
 }
 
+// Frees the channel that this process claimed, and answers false.
 fn disclaim(w: Plan, mem: &[u32]) -> Plan
     requires { ⌜ Room 1 w ⌝ }
     ensures { λ r. ⌜ (view r ≡ channels.disclaim (now (mem .entry)) (view w)) × Grown 1 w r ⌝ }
@@ -92,6 +98,7 @@ fn disclaim(w: Plan, mem: &[u32]) -> Plan
     )
 }
 
+// Answers false on a free channel, frees one that this process claimed, and selects the guard where a partner waits.
 fn disc_soft(w: Plan, mem: &[u32]) -> Plan
     requires { ⌜ Room 1 w ⌝ }
     ensures { λ r. ⌜ (view r ≡ channels.discSoft (now (mem .entry)) (view w)) × Grown 1 w r ⌝ }
@@ -105,7 +112,7 @@ fn disc_soft(w: Plan, mem: &[u32]) -> Plan
     is_this_selected_process(w, mem)
 }
 
-// Ready exactly when a byte is held (DECISIONS 30).
+// Selects the guard exactly where a byte is held, else answers false (DECISIONS 30).
 fn disc_answer(w: Plan, mem: &[u32], c: usize) -> Plan
     requires { ⌜ (c < registers.linkChans) × Room 1 w ⌝ }
     ensures { λ r. ⌜ (view r ≡ channels.discAnswer (now (mem .entry)) c (view w)) × Grown 1 w r ⌝ }
@@ -117,6 +124,7 @@ fn disc_answer(w: Plan, mem: &[u32], c: usize) -> Plan
     is_this_selected_process(w, mem)
 }
 
+// Frees the channel, and clears enabled and the ready request (DECISIONS 30).
 fn disc_hard(w: Plan, mem: &[u32], c: usize) -> Plan
     requires { ⌜ (c < registers.linkChans) × Room 2 w ⌝ }
     ensures { λ r. ⌜ (view r ≡ channels.discHard (now (mem .entry)) c (view w)) × Grown 2 w r ⌝ }
@@ -126,7 +134,7 @@ fn disc_hard(w: Plan, mem: &[u32], c: usize) -> Plan
     disc_answer(lower(cleared, k, ENABLED_BIT + READY_REQUEST), mem, c)
 }
 
-// On a soft channel B is left with the channel word (DECISIONS 11).
+// Decides by the channel number between a hard and a soft channel; on a soft one B is left with the channel word (DECISIONS 11).
 fn disc_channel(w: Plan, mem: &[u32]) -> Plan
     requires { ⌜ Room 2 w ⌝ }
     ensures { λ r. ⌜ (view r ≡ channels.discChannel (now (mem .entry)) (view w)) × Grown 2 w r ⌝ }
@@ -138,6 +146,7 @@ fn disc_channel(w: Plan, mem: &[u32]) -> Plan
     disc_soft(r_index_word(w, mem, w.regs[CREG], 0, BREG), mem)
 }
 
+// Disables a guard with offset A and condition B on channel C (000 1.11, disable channel).
 pub fn disc(w: Plan, mem: &[u32]) -> Plan
     requires { ⌜ Room 2 w ⌝ }
     ensures { λ r. ⌜ (view r ≡ channels.disc (now (mem .entry)) (view w)) × Grown 2 w r ⌝ }

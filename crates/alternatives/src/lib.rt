@@ -1,3 +1,4 @@
-// HEAD alternatives
-pub mod waits; // Alternatives (000 1.11): their start and wait, and skip guards.
-pub mod guards; // Channel guards (000 1.11): enable channel and disable channel.
+// Alternatives (000 1.11), on a plan: start, wait, skip guards and channel guards. Mirrors rules/specs/Channels.antt; timer guards are in the
+// crate timers.
+pub mod waits; // `alt`, `altwt`, `enbs`, `diss`
+pub mod guards; // `enbc`, `disc`

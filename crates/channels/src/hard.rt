@@ -1,5 +1,4 @@
-// Hard channels: the transfer of a link or of the event channel is started, or reset (000 1.10, 1.11; 01, Links,
-// clocks, slice). Each function is the code of a definition of rules/specs/Channels.antt.
+// Hard channels (000 1.10, 1.11; 01, Links, clocks, slice): the start of a transfer, and reset channel.
 use links::link_calls::event_meets;
 use links::link_calls::receive;
 use memory::loads::word_at;
@@ -21,7 +20,7 @@ ghost use Rattle.rules.specs.Registers as registers;
 ghost use Rattle.rules.specs.Channels as channels;
 ghost use Rattle.plan.specs.View.{view, Room, Grown};
 
-// Pointer, count and active are set; the other bits stay (DECISIONS 31).
+// Sets pointer, count and active; the other bits stay (DECISIONS 31).
 fn start_transfer(w: Plan, c: usize) -> Plan
     requires { ⌜ c < registers.linkChans ⌝ }
     ensures { λ r. ⌜ (view r ≡ channels.startTransfer c (view w)) × Grown 0 w r ⌝ }
@@ -32,7 +31,7 @@ fn start_transfer(w: Plan, c: usize) -> Plan
     raise(put(put(w, p, w.regs[CREG]), n, w.regs[AREG]), k, ACTIVE_BIT)
 }
 
-// PROC HardChannelInputOutputAction.
+// HardChannelInputOutputAction (000 1.10): stores Wdesc in the channel word, saves Iptr, and starts the transfer.
 fn hard_start(w: Plan, mem: &[u32], c: usize) -> Plan
     requires { ⌜ (c < registers.linkChans) × Room 2 w ⌝ }
     ensures { λ r. ⌜ (view r ≡ channels.hardStart (now (mem .entry)) c (view w)) × Grown 2 w r ⌝ }
@@ -41,7 +40,7 @@ fn hard_start(w: Plan, mem: &[u32], c: usize) -> Plan
     start_transfer(save_iptr(claimed, mem), c)
 }
 
-// A count of 0 touches neither link nor channel word and the process goes on (DECISIONS 28).
+// Starts an output and sets GotoSNPBit. A count of 0 touches neither link nor channel word, and the process goes on (DECISIONS 28).
 pub fn hard_output(w: Plan, mem: &[u32], c: usize) -> Plan
     requires { ⌜ (c < registers.linkChans) × Room 2 w ⌝ }
     ensures { λ r. ⌜ (view r ≡ channels.hardOutput (now (mem .entry)) c (view w)) × Grown 2 w r ⌝ }
@@ -52,7 +51,7 @@ pub fn hard_output(w: Plan, mem: &[u32], c: usize) -> Plan
     goto_snp(hard_start(w, mem, c))
 }
 
-// What a give or an event would do with what is held.
+// Does with what is held what a give or an event would do (DECISIONS 29).
 fn meet_held(w: Plan, mem: &[u32], c: usize) -> Plan
     requires { ⌜ (c < registers.linkChans) × Room 1 w ⌝ }
     ensures { λ r. ⌜ (view r ≡ channels.meetHeld (now (mem .entry)) c (view w)) × Grown 1 w r ⌝ }
@@ -64,6 +63,7 @@ fn meet_held(w: Plan, mem: &[u32], c: usize) -> Plan
     receive(w, mem, c, held_byte(w.regs[k]))
 }
 
+// Starts a transfer, clears held and uses what was held (DECISIONS 29).
 fn hard_input_held(w: Plan, mem: &[u32], c: usize) -> Plan
     requires { ⌜ (c < registers.linkChans) × Room 3 w ⌝ }
     ensures { λ r. ⌜ (view r ≡ channels.hardInputHeld (now (mem .entry)) c (view w)) × Grown 3 w r ⌝ }
@@ -72,7 +72,7 @@ fn hard_input_held(w: Plan, mem: &[u32], c: usize) -> Plan
     goto_snp(meet_held(lower(hard_start(w, mem, c), k, HELD_BIT), mem, c))
 }
 
-// An `in` on channels 4 to 8 that finds something held (DECISIONS 29); any other transfer ignores held.
+// Starts a transfer; only an `in` on channels 4 to 8 uses what is held (DECISIONS 29).
 fn hard_input_start(w: Plan, mem: &[u32], c: usize) -> Plan
     requires { ⌜ (c < registers.linkChans) × Room 3 w ⌝ }
     ensures { λ r. ⌜ (view r ≡ channels.hardInputStart (now (mem .entry)) c (view w)) × Grown 3 w r ⌝ }
@@ -87,6 +87,7 @@ fn hard_input_start(w: Plan, mem: &[u32], c: usize) -> Plan
     hard_input_held(w, mem, c)
 }
 
+// Starts an input and sets GotoSNPBit; a count of 0 does nothing (DECISIONS 28).
 pub fn hard_input(w: Plan, mem: &[u32], c: usize) -> Plan
     requires { ⌜ (c < registers.linkChans) × Room 3 w ⌝ }
     ensures { λ r. ⌜ (view r ≡ channels.hardInput (now (mem .entry)) c (view w)) × Grown 3 w r ⌝ }
@@ -97,7 +98,7 @@ pub fn hard_input(w: Plan, mem: &[u32], c: usize) -> Plan
     hard_input_start(w, mem, c)
 }
 
-// Bits 0 to 4 of a hard channel's flags are cleared; a soft channel has none.
+// Clears bits 0 to 4 of a hard channel's flags; a soft channel has no flags.
 fn reset_hard(w: Plan, mem: &[u32], number: u32) -> Plan
     ensures { λ r. ⌜ (view r ≡ channels.resetHard (now (mem .entry)) number (view w)) × Grown 0 w r ⌝ }
 {
@@ -108,6 +109,7 @@ fn reset_hard(w: Plan, mem: &[u32], number: u32) -> Plan
     w
 }
 
+// Resets channel A, and leaves the old channel word in A (000 1.11, reset channel).
 pub fn resetch(w: Plan, mem: &[u32]) -> Plan
     requires { ⌜ Room 1 w ⌝ }
     ensures { λ r. ⌜ (view r ≡ channels.resetch (now (mem .entry)) (view w)) × Grown 1 w r ⌝ }

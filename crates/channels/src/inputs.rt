@@ -1,4 +1,4 @@
-// PROC Input (000 1.10): A is the count, B the channel, C the pointer.
+// Input (000 1.10): A is the count, B the channel, C the pointer.
 use crate::hard::hard_input;
 use crate::soft::move_message;
 use crate::soft::soft_wait;
@@ -14,13 +14,14 @@ ghost use mathlib.Core.Path.{_≡_};
 ghost use Rattle.rules.specs.Channels as channels;
 ghost use Rattle.plan.specs.View.{view, Room, Grown, Ended};
 
-// The registers for a message from the partner's pointer.
+// Sets B to the destination and C to the source of the message (DECISIONS 14).
 fn input_regs(w: Plan, source: u32) -> Plan
     ensures { λ r. ⌜ (view r ≡ channels.inputRegs source (view w)) × Grown 0 w r ⌝ }
 {
     put(put(w, BREG, w.regs[CREG]), CREG, source)
 }
 
+// Loads the partner's pointer, at Pointer.s, and moves the message.
 fn input_ready(w: Plan, mem: &[u32], descriptor: u32) -> Plan
     requires { ⌜ Room 7 w × (w .count ≡ 0) ⌝ }
     ensures { λ r. ⌜ (view r ≡ channels.inputReady (now (mem .entry)) descriptor (view w)) × Ended 7 w r ⌝ }
@@ -30,6 +31,7 @@ fn input_ready(w: Plan, mem: &[u32], descriptor: u32) -> Plan
     move_message(input_regs(load_word(w, mem, a), source), mem, descriptor)
 }
 
+// Waits where the channel word is NotProcess.p, else resets the channel (DECISIONS 51) and moves the message.
 fn soft_input(w: Plan, mem: &[u32], descriptor: u32) -> Plan
     requires { ⌜ Room 8 w × (w .count ≡ 0) ⌝ }
     ensures { λ r. ⌜ (view r ≡ channels.softInput (now (mem .entry)) descriptor (view w)) × Ended 8 w r ⌝ }
@@ -44,6 +46,7 @@ fn soft_input(w: Plan, mem: &[u32], descriptor: u32) -> Plan
     )
 }
 
+// Input (000 1.10), which is also input message (000 1.11).
 pub fn input(w: Plan, mem: &[u32]) -> Plan
     requires { ⌜ Room 8 w × (w .count ≡ 0) ⌝ }
     ensures { λ r. ⌜ (view r ≡ channels.input (now (mem .entry)) (view w)) × Ended 8 w r ⌝ }

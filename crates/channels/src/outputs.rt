@@ -1,4 +1,4 @@
-// PROC Output (000 1.10): A is the count, B the channel, C the pointer; and the operations that send a word or a byte of the workspace.
+// Output (000 1.10): A is the count, B the channel, C the pointer; and output word and output byte (000 1.11).
 use crate::hard::hard_output;
 use crate::soft::move_message;
 use crate::soft::soft_wait;
@@ -15,6 +15,7 @@ ghost use mathlib.Core.Path.{_≡_};
 ghost use Rattle.rules.specs.Channels as channels;
 ghost use Rattle.plan.specs.View.{view, Room, Grown, Ended};
 
+// Resets the channel and moves the message to the partner's pointer (DECISIONS 14).
 fn output_message(w: Plan, mem: &[u32], descriptor: u32, target: u32) -> Plan
     requires { ⌜ Room 8 w × (w .count ≡ 0) ⌝ }
     ensures { λ r. ⌜ (view r ≡ channels.outputMessage (now (mem .entry)) descriptor target (view w)) × Ended 8 w r ⌝ }
@@ -23,7 +24,7 @@ fn output_message(w: Plan, mem: &[u32], descriptor: u32, target: u32) -> Plan
     move_message(put(cleared, BREG, target), mem, descriptor)
 }
 
-// The scheduler's interlock for ALT.
+// Makes the partner's alternative ready and waits: the scheduler interlock for ALT.
 fn output_enabling(w: Plan, mem: &[u32], descriptor: u32) -> Plan
     requires { ⌜ Room 4 w ⌝ }
     ensures { λ r. ⌜ (view r ≡ channels.outputEnabling (now (mem .entry)) descriptor (view w)) × Grown 4 w r ⌝ }
@@ -34,6 +35,7 @@ fn output_enabling(w: Plan, mem: &[u32], descriptor: u32) -> Plan
     )
 }
 
+// Makes the partner's alternative ready, waits, and runs the partner.
 fn output_waiting(w: Plan, mem: &[u32], descriptor: u32) -> Plan
     requires { ⌜ Room 11 w ⌝ }
     ensures { λ r. ⌜ (view r ≡ channels.outputWaiting (now (mem .entry)) descriptor (view w)) × Grown 11 w r ⌝ }
@@ -41,6 +43,7 @@ fn output_waiting(w: Plan, mem: &[u32], descriptor: u32) -> Plan
     run(output_enabling(w, mem, descriptor), mem, descriptor)
 }
 
+// Decides by the partner's Pointer.s: the state of an alternative, or the pointer of an input.
 fn output_to(w: Plan, mem: &[u32], descriptor: u32, target: u32) -> Plan
     requires { ⌜ Room 11 w × (w .count ≡ 0) ⌝ }
     ensures { λ r. ⌜ (view r ≡ channels.outputTo (now (mem .entry)) descriptor target (view w)) × Ended 11 w r ⌝ }
@@ -57,6 +60,7 @@ fn output_to(w: Plan, mem: &[u32], descriptor: u32, target: u32) -> Plan
     output_message(w, mem, descriptor, target)
 }
 
+// Loads the partner's Pointer.s.
 fn output_ready(w: Plan, mem: &[u32], descriptor: u32) -> Plan
     requires { ⌜ Room 11 w × (w .count ≡ 0) ⌝ }
     ensures { λ r. ⌜ (view r ≡ channels.outputReady (now (mem .entry)) descriptor (view w)) × Ended 11 w r ⌝ }
@@ -66,6 +70,7 @@ fn output_ready(w: Plan, mem: &[u32], descriptor: u32) -> Plan
     output_to(load_word(w, mem, a), mem, descriptor, target)
 }
 
+// Waits where the channel word is NotProcess.p, else outputs to the partner.
 fn soft_output(w: Plan, mem: &[u32], descriptor: u32) -> Plan
     requires { ⌜ Room 11 w × (w .count ≡ 0) ⌝ }
     ensures { λ r. ⌜ (view r ≡ channels.softOutput (now (mem .entry)) descriptor (view w)) × Ended 11 w r ⌝ }
@@ -76,6 +81,7 @@ fn soft_output(w: Plan, mem: &[u32], descriptor: u32) -> Plan
     output_ready(w, mem, descriptor)
 }
 
+// Output (000 1.10), which is also output message (000 1.11).
 pub fn output(w: Plan, mem: &[u32]) -> Plan
     requires { ⌜ Room 11 w × (w .count ≡ 0) ⌝ }
     ensures { λ r. ⌜ (view r ≡ channels.output (now (mem .entry)) (view w)) × Ended 11 w r ⌝ }
@@ -89,7 +95,7 @@ pub fn output(w: Plan, mem: &[u32]) -> Plan
     soft_output(load_word(w, mem, a), mem, descriptor)
 }
 
-// A is stored in local 0, and its bytes are sent from there (DECISIONS 42).
+// Stores A in local 0 and outputs count bytes from there (DECISIONS 42).
 fn output_local(w: Plan, mem: &[u32], count: u32) -> Plan
     requires { ⌜ Room 12 w × (w .count ≡ 0) ⌝ }
     ensures { λ r. ⌜ (view r ≡ channels.outputLocal (now (mem .entry)) count (view w)) × Ended 12 w r ⌝ }

@@ -1,4 +1,4 @@
-// PROC HandleChannelRequest (000 1.8). Which channel has a request is asked in the crate asking.
+// HandleChannelRequest (000 1.8) for hard channel hc. step_pending::service finds the channel.
 use memory::loads::word_at;
 use memory::store::load_word;
 use memory::store::w_index_word;
@@ -14,7 +14,7 @@ ghost use Rattle.rules.specs.Registers as registers;
 ghost use Rattle.rules.specs.Channels as channels;
 ghost use Rattle.plan.specs.View.{view, Room, Grown};
 
-// After a reset there is no process to run.
+// Runs the process of the channel word and resets the word; after a reset there is no process (DECISIONS 34).
 fn run_content(w: Plan, mem: &[u32], hc: usize, content: u32) -> Plan
     requires { ⌜ (hc < registers.linkChans) × Room 8 w ⌝ }
     ensures { λ r. ⌜ (view r ≡ channels.runContent (now (mem .entry)) hc content (view w)) × Grown 8 w r ⌝ }
@@ -29,6 +29,7 @@ fn run_content(w: Plan, mem: &[u32], hc: usize, content: u32) -> Plan
     )
 }
 
+// Serves a run request: loads the channel word and runs its process.
 fn handle_run_request(w: Plan, mem: &[u32], hc: usize) -> Plan
     requires { ⌜ (hc < registers.linkChans) × Room 8 w ⌝ }
     ensures { λ r. ⌜ (view r ≡ channels.handleRunRequest (now (mem .entry)) hc (view w)) × Grown 8 w r ⌝ }
@@ -38,6 +39,7 @@ fn handle_run_request(w: Plan, mem: &[u32], hc: usize) -> Plan
     run_content(load_word(w, mem, a), mem, hc, content)
 }
 
+// Makes the waiting process ready and runs it.
 fn ready_waiting(w: Plan, mem: &[u32], content: u32) -> Plan
     requires { ⌜ Room 8 w ⌝ }
     ensures { λ r. ⌜ (view r ≡ channels.readyWaiting (now (mem .entry)) content (view w)) × Grown 8 w r ⌝ }
@@ -49,7 +51,7 @@ fn ready_waiting(w: Plan, mem: &[u32], content: u32) -> Plan
     )
 }
 
-// An IF of 000 with three branches: any other status is a Stop.
+// Makes the alternative ready, and runs a waiting process; refuses with STOP on any status but the three (DECISIONS 26).
 fn ready_status(w: Plan, mem: &[u32], content: u32, status: u32) -> Plan
     requires { ⌜ Room 8 w ⌝ }
     ensures { λ r. ⌜ (view r ≡ channels.readyStatus (now (mem .entry)) content status (view w)) × Grown 8 w r ⌝ }
@@ -66,6 +68,7 @@ fn ready_status(w: Plan, mem: &[u32], content: u32, status: u32) -> Plan
     refuse(w, STOP)
 }
 
+// Loads the status of the process, at Pointer.s.
 fn ready_content(w: Plan, mem: &[u32], content: u32) -> Plan
     requires { ⌜ Room 8 w ⌝ }
     ensures { λ r. ⌜ (view r ≡ channels.readyContent (now (mem .entry)) content (view w)) × Grown 8 w r ⌝ }
@@ -75,6 +78,7 @@ fn ready_content(w: Plan, mem: &[u32], content: u32) -> Plan
     ready_status(load_word(w, mem, a), mem, content, status)
 }
 
+// Serves a ready request: loads the channel word and makes its process ready.
 fn handle_ready_request(w: Plan, mem: &[u32], hc: usize) -> Plan
     requires { ⌜ (hc < registers.linkChans) × Room 8 w ⌝ }
     ensures { λ r. ⌜ (view r ≡ channels.handleReadyRequest (now (mem .entry)) hc (view w)) × Grown 8 w r ⌝ }
@@ -84,7 +88,7 @@ fn handle_ready_request(w: Plan, mem: &[u32], hc: usize) -> Plan
     ready_content(load_word(w, mem, a), mem, content)
 }
 
-// The run request is served before the ready request, and that bit is cleared.
+// HandleChannelRequest (000 1.8): clears the request and serves it, the run request before the ready request (01, One step (a)).
 pub fn handle_channel_request(w: Plan, mem: &[u32], hc: usize) -> Plan
     requires { ⌜ (hc < registers.linkChans) × Room 8 w ⌝ }
     ensures { λ r. ⌜ (view r ≡ channels.handleChannelRequest (now (mem .entry)) hc (view w)) × Grown 8 w r ⌝ }

@@ -1,4 +1,4 @@
-// What input and output on soft channels share (000 1.10): the wait for a partner, and the message to or from one.
+// What input and output on soft channels share (000 1.10).
 use memory::block_move::transfer;
 use memory::store::w_index_word;
 use plan::Plan;
@@ -11,7 +11,7 @@ ghost use mathlib.Core.Path.{_≡_};
 ghost use Rattle.rules.specs.Channels as channels;
 ghost use Rattle.plan.specs.View.{view, Room, Grown, Ended};
 
-// PROC SaveRegsPendingSoftIO.
+// SaveRegsPendingSoftIO (000 1.10): stores Wdesc in the channel word, saves Iptr, and stores the pointer C at Pointer.s.
 fn save_regs_pending_soft_io(w: Plan, mem: &[u32]) -> Plan
     requires { ⌜ Room 3 w ⌝ }
     ensures { λ r. ⌜ (view r ≡ channels.saveRegsPendingSoftIO (now (mem .entry)) (view w)) × Grown 3 w r ⌝ }
@@ -21,6 +21,7 @@ fn save_regs_pending_soft_io(w: Plan, mem: &[u32]) -> Plan
     w_index_word(save_iptr(claimed, mem), mem, wptr, POINTER_S, w.regs[CREG])
 }
 
+// Saves the registers for the partner and sets GotoSNPBit.
 pub fn soft_wait(w: Plan, mem: &[u32]) -> Plan
     requires { ⌜ Room 3 w ⌝ }
     ensures { λ r. ⌜ (view r ≡ channels.softWait (now (mem .entry)) (view w)) × Grown 3 w r ⌝ }
@@ -28,7 +29,7 @@ pub fn soft_wait(w: Plan, mem: &[u32]) -> Plan
     goto_snp(save_regs_pending_soft_io(w, mem))
 }
 
-// The message is moved, then the partner runs (BlockMoveFinalStep).
+// Moves the message, then runs the partner (000 1.10, BlockMoveFinalStep).
 pub fn move_message(w: Plan, mem: &[u32], descriptor: u32) -> Plan
     requires { ⌜ Room 7 w × (w .count ≡ 0) ⌝ }
     ensures { λ r. ⌜ (view r ≡ channels.moveMessage (now (mem .entry)) descriptor (view w)) × Ended 7 w r ⌝ }

@@ -1,4 +1,4 @@
-// Single bytes.
+// Load byte and store byte (000 1.11).
 use memory::store::r_index_byte;
 use memory::store::store_byte;
 use plan::Plan;
@@ -8,7 +8,7 @@ ghost use mathlib.Core.Path.{_≡_};
 ghost use Rattle.plan.specs.View.{view, Room, Grown};
 ghost use Rattle.rules.specs.Data as dataRules;
 
-// Load byte.
+// Loads the byte at A into A.
 pub fn lb(w: Plan, mem: &[u32]) -> Plan
     requires { ⌜ Room 0 w ⌝ }
     ensures { λ r. ⌜ (view r ≡ dataRules.lb (now (mem .entry)) (view w)) × Grown 0 w r ⌝ }
@@ -16,7 +16,7 @@ pub fn lb(w: Plan, mem: &[u32]) -> Plan
     r_index_byte(w, mem, w.regs[AREG], AREG)
 }
 
-// Store byte: Breg and Creg keep their values.
+// Stores the low byte of B at A, and copies C to A; B and C keep their values (DECISIONS 8).
 pub fn sb(w: Plan, mem: &[u32]) -> Plan
     requires { ⌜ Room 1 w ⌝ }
     ensures { λ r. ⌜ (view r ≡ dataRules.sb (now (mem .entry)) (view w)) × Grown 1 w r ⌝ }

@@ -1,4 +1,4 @@
-// Procedures are called and left, and an alternative is entered.
+// Call, return and alt end (000 1.11).
 use memory::loads::word_at;
 use memory::store::load_word;
 use memory::store::r_index_word;
@@ -13,7 +13,7 @@ ghost use mathlib.Core.Path.{_≡_};
 ghost use Rattle.plan.specs.View.{view, Room, Grown};
 ghost use Rattle.rules.specs.Data as dataRules;
 
-// The places of a frame, in words from the caller's Wptr.
+// The words of a call frame, counted from the caller's Wptr.
 const IPTR_PLACE: u32 = 0xFFFF_FFFC;
 
 const AREG_PLACE: u32 = 0xFFFF_FFFD;
@@ -22,12 +22,12 @@ const BREG_PLACE: u32 = 0xFFFF_FFFE;
 
 const CREG_PLACE: u32 = 0xFFFF_FFFF;
 
-// How many words a frame takes, and the word of that number below 0.
-const EMPTY_RECORD: u32 = 4;
+// The length of a call frame in words, and its negative.
+const FRAME_WORDS: u32 = 4;
 
 const MINUS_FRAME: u32 = 0xFFFF_FFFC;
 
-// The stack and Iptr, stored from the highest place down.
+// Stores the call frame: C, B, A, then Iptr.
 fn call_frame(w: Plan, mem: &[u32]) -> Plan
     requires { ⌜ Room 4 w ⌝ }
     ensures { λ r. ⌜ (view r ≡ dataRules.callFrame (now (mem .entry)) (view w)) × Grown 4 w r ⌝ }
@@ -39,7 +39,7 @@ fn call_frame(w: Plan, mem: &[u32]) -> Plan
     w_index_word(s, mem, wptr, IPTR_PLACE, w.regs[IPTR_REG])
 }
 
-// Areg tells where the caller goes on.
+// Copies the return address to A, moves Wptr below the frame and jumps by Oreg.
 fn entered(w: Plan) -> Plan
     ensures { λ r. ⌜ (view r ≡ dataRules.entered (view w)) × Grown 0 w r ⌝ }
 {
@@ -47,7 +47,7 @@ fn entered(w: Plan) -> Plan
     jump_by(adjusted(put(w, AREG, w.regs[IPTR_REG]), MINUS_FRAME), n)
 }
 
-// Call.
+// Stores the call frame and enters the procedure (000 1.11, call).
 pub fn call(w: Plan, mem: &[u32]) -> Plan
     requires { ⌜ Room 4 w ⌝ }
     ensures { λ r. ⌜ (view r ≡ dataRules.call (now (mem .entry)) (view w)) × Grown 4 w r ⌝ }
@@ -55,18 +55,18 @@ pub fn call(w: Plan, mem: &[u32]) -> Plan
     entered(call_frame(w, mem))
 }
 
-// Return.
+// Loads Iptr from the frame and moves Wptr above the frame (000 1.11, return).
 pub fn ret(w: Plan, mem: &[u32]) -> Plan
     requires { ⌜ Room 0 w ⌝ }
     ensures { λ r. ⌜ (view r ≡ dataRules.ret (now (mem .entry)) (view w)) × Grown 0 w r ⌝ }
 {
     adjusted(
         r_index_word(w, mem, w.regs[WDESC_REG] & WPTR_MASK, 0, IPTR_REG),
-        EMPTY_RECORD,
+        FRAME_WORDS,
     )
 }
 
-// Alt end.
+// Jumps by the offset in local 0, which is that of the selected guard (000 1.11, alt end).
 pub fn altend(w: Plan, mem: &[u32]) -> Plan
     requires { ⌜ Room 0 w ⌝ }
     ensures { λ r. ⌜ (view r ≡ dataRules.altend (now (mem .entry)) (view w)) × Grown 0 w r ⌝ }

@@ -1,6 +1,6 @@
-// HEAD data
-pub mod locals; // Words loaded and stored by the operand, from Wptr or from Areg.
-pub mod bytes; // Single bytes.
-pub mod blocks; // The block move in one step (01, One step).
-pub mod queue_words; // The queue pointers of a level go to memory.
-pub mod calls; // Procedures are called and left, and an alternative is entered.
+// Functions and operations that load and store and do not schedule (000 1.11), on a plan. Mirrors rules/specs/Data.antt.
+pub mod locals; // `ldl`, `stl`, `ldnl`, `stnl`
+pub mod bytes; // `lb`, `sb`
+pub mod blocks; // `move`
+pub mod queue_words; // `saveh`, `savel`
+pub mod calls; // `call`, `ret`, `altend`

@@ -1,4 +1,4 @@
-// Words loaded and stored by the operand, from Wptr or from Areg.
+// Loads and stores of words at Wptr or A plus the operand Oreg, in words (000 1.11).
 use memory::store::r_index_word;
 use memory::store::w_index_word;
 use plan::Plan;
@@ -10,7 +10,7 @@ ghost use mathlib.Core.Path.{_≡_};
 ghost use Rattle.plan.specs.View.{view, Room, Grown};
 ghost use Rattle.rules.specs.Data as dataRules;
 
-// Load local.
+// Pushes the stack and loads the local into A (000 1.11, load local).
 pub fn ldl(w: Plan, mem: &[u32]) -> Plan
     requires { ⌜ Room 0 w ⌝ }
     ensures { λ r. ⌜ (view r ≡ dataRules.ldl (now (mem .entry)) (view w)) × Grown 0 w r ⌝ }
@@ -24,7 +24,7 @@ pub fn ldl(w: Plan, mem: &[u32]) -> Plan
     )
 }
 
-// Store local.
+// Stores A in the local and pops the stack (000 1.11, store local).
 pub fn stl(w: Plan, mem: &[u32]) -> Plan
     requires { ⌜ Room 1 w ⌝ }
     ensures { λ r. ⌜ (view r ≡ dataRules.stl (now (mem .entry)) (view w)) × Grown 1 w r ⌝ }
@@ -33,7 +33,7 @@ pub fn stl(w: Plan, mem: &[u32]) -> Plan
     popped(w_index_word(w, mem, wptr, w.regs[OREG], w.regs[AREG]))
 }
 
-// Load non-local.
+// Loads the non-local into A (000 1.11, load non-local).
 pub fn ldnl(w: Plan, mem: &[u32]) -> Plan
     requires { ⌜ Room 0 w ⌝ }
     ensures { λ r. ⌜ (view r ≡ dataRules.ldnl (now (mem .entry)) (view w)) × Grown 0 w r ⌝ }
@@ -41,7 +41,7 @@ pub fn ldnl(w: Plan, mem: &[u32]) -> Plan
     r_index_word(w, mem, w.regs[AREG], w.regs[OREG], AREG)
 }
 
-// Store non-local: Breg and Creg keep their values.
+// Stores B in the non-local and copies C to A; B and C keep their values (000 1.11, store non-local; DECISIONS 8).
 pub fn stnl(w: Plan, mem: &[u32]) -> Plan
     requires { ⌜ Room 1 w ⌝ }
     ensures { λ r. ⌜ (view r ≡ dataRules.stnl (now (mem .entry)) (view w)) × Grown 1 w r ⌝ }

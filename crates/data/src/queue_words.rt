@@ -1,4 +1,4 @@
-// The queue pointers of a level go to memory.
+// Save high and low priority queue registers (000 1.11).
 use memory::store::w_index_word;
 use plan::Plan;
 use plan::operands::popped;
@@ -8,7 +8,7 @@ ghost use mathlib.Core.Path.{_≡_};
 ghost use Rattle.plan.specs.View.{view, Room, Grown};
 ghost use Rattle.rules.specs.Data as dataRules;
 
-// Those of a level.
+// Stores the front and back of a run queue in the two words at A, and pops the stack.
 fn save_queue(w: Plan, mem: &[u32], level: usize) -> Plan
     requires { ⌜ (level < 2) × Room 2 w ⌝ }
     ensures { λ r. ⌜ (view r ≡ dataRules.saveQueue (now (mem .entry)) level (view w)) × Grown 2 w r ⌝ }
@@ -19,7 +19,7 @@ fn save_queue(w: Plan, mem: &[u32], level: usize) -> Plan
     popped(w_index_word(s, mem, w.regs[AREG], 1, back))
 }
 
-// Save high priority queue registers.
+// Saves the pointers of the high queue.
 pub fn saveh(w: Plan, mem: &[u32]) -> Plan
     requires { ⌜ Room 2 w ⌝ }
     ensures { λ r. ⌜ (view r ≡ dataRules.saveh (now (mem .entry)) (view w)) × Grown 2 w r ⌝ }
@@ -27,7 +27,7 @@ pub fn saveh(w: Plan, mem: &[u32]) -> Plan
     save_queue(w, mem, 0)
 }
 
-// Save low priority queue registers.
+// Saves the pointers of the low queue.
 pub fn savel(w: Plan, mem: &[u32]) -> Plan
     requires { ⌜ Room 2 w ⌝ }
     ensures { λ r. ⌜ (view r ≡ dataRules.savel (now (mem .entry)) (view w)) × Grown 2 w r ⌝ }

@@ -1,4 +1,4 @@
--- The test "a link is moving", decided by what `transfers::moving` answers.
+-- The test "a link is moving" of the definitions, decided by the result of transfers::moving.
 use mathlib.Core.Path.{_≡_, refl}
 use mathlib.Core.Bool.{Bool, true, false}
 use Prim.Native.Nat.{ℕ}

@@ -1,4 +1,4 @@
-// The clocks (01, Links, clocks, slice): what tick does to the registers. It stores nothing and is never refused, so it needs no plan.
+// Tick (01, Links, clocks, slice): it stores nothing and is never refused, so it works on the registers without a plan.
 use rules::REGISTERS;
 use rules::names::*;
 use words::wrap_add;
@@ -6,6 +6,7 @@ ghost use mathlib.Core.Path.{_≡_};
 ghost use Rattle.rules.specs.Work.{begin};
 ghost use Rattle.rules.specs.Links as links;
 
+// Adds 1 to a slice below 1,024.
 fn tick_slice(regs: [u32; REGISTERS]) -> [u32; REGISTERS]
     ensures { λ r. ⌜ begin r ≡ links.tickSlice (begin regs) ⌝ }
 {
@@ -17,6 +18,7 @@ fn tick_slice(regs: [u32; REGISTERS]) -> [u32; REGISTERS]
     t
 }
 
+// Adds 1 to the prescaler; from 63 on sets the prescaler to 0 and adds 1 to the low clock.
 fn tick_prescaler(regs: [u32; REGISTERS]) -> [u32; REGISTERS]
     ensures { λ r. ⌜ begin r ≡ links.tickPrescaler (begin regs) ⌝ }
 {
@@ -31,6 +33,7 @@ fn tick_prescaler(regs: [u32; REGISTERS]) -> [u32; REGISTERS]
     t
 }
 
+// Adds 1 to the high clock, then ticks the prescaler and the slice.
 fn tick_clocks(regs: [u32; REGISTERS]) -> [u32; REGISTERS]
     ensures { λ r. ⌜ begin r ≡ links.tickClocks (begin regs) ⌝ }
 {
@@ -40,7 +43,7 @@ fn tick_clocks(regs: [u32; REGISTERS]) -> [u32; REGISTERS]
     tick_slice(tick_prescaler(t))
 }
 
-// Nothing changes while the clocks don't run.
+// Ticks the clocks if they run.
 pub fn tick(regs: [u32; REGISTERS]) -> [u32; REGISTERS]
     ensures { λ r. ⌜ begin r ≡ links.tick (begin regs) ⌝ }
 {

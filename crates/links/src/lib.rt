@@ -1,4 +1,5 @@
-// HEAD links
-pub mod transfers; // What the calls take, give and event share, in registers alone: a transfer's progress and end, and what a channel holds (01, Links, clocks,
-pub mod link_calls; // Links and the event channel on a plan: what take, give and event do, and what an `in` that finds something held does
-pub mod clock; // The clocks (01, Links, clocks, slice): what tick does to the registers. It stores nothing and is never refused, so it needs no plan.
+// Links, the event channel and the clocks: what take, give, event and tick do (01, Links, clocks, slice). Mirrors rules/specs/Links.antt. The
+// registers of channel c stand 3 * c words after those of channel 0.
+pub mod transfers; // progress and end of a transfer; a held byte
+pub mod link_calls; // take, give, event
+pub mod clock; // tick

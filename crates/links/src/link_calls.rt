@@ -1,6 +1,4 @@
-// Links and the event channel on a plan: what take, give and event do, and what an `in` that finds something held does
-// (01, Links, clocks, slice). Each function is the code of a definition of rules/specs/Links.antt; those of the clocks
-// are in the crate ticks. The words of channel c stand at 3 * c from the registers of channel 0.
+// Take, give and event, on a plan (01, Links, clocks, slice). An `in` that finds something held uses receive and event_meets.
 use crate::transfers::advance;
 use crate::transfers::hold;
 use crate::transfers::moving;
@@ -20,20 +18,21 @@ ghost use Rattle.rules.specs.Registers as registers;
 ghost use Rattle.rules.specs.Links as links;
 ghost use Rattle.plan.specs.View.{view, Room, Grown};
 
-// The event channel moves no data: one event meets a transfer of any count above 0.
+// Ends the moving transfer of the event channel: sets its count to 0 and leaves its pointer.
 pub fn event_meets(w: Plan) -> Plan
     ensures { λ r. ⌜ (view r ≡ links.eventMeets (view w)) × Grown 0 w r ⌝ }
 {
     transfer_ends(put(w, EVENT_COUNT_REG, 0), EVENT_CHANNEL)
 }
 
-// With no transfer moving, held is set and the byte bits stay.
+// Holds the event: sets held and leaves the byte bits.
 pub fn event_holds(w: Plan) -> Plan
     ensures { λ r. ⌜ (view r ≡ links.eventHolds (view w)) × Grown 0 w r ⌝ }
 {
     notice_held(raise(w, EVENT_CHANNEL_REG, HELD_BIT), EVENT_CHANNEL)
 }
 
+// Ends a moving transfer, else holds the event; refuses with NOT_READY where one is held.
 pub fn event(w: Plan) -> Plan
     ensures { λ r. ⌜ (view r ≡ links.event (view w)) × Grown 0 w r ⌝ }
 {
@@ -46,7 +45,7 @@ pub fn event(w: Plan) -> Plan
     refuse(w, NOT_READY)
 }
 
-// Take: the byte at the pointer.
+// Reads the byte at the pointer, which take hands over.
 pub fn taken(w: Plan, mem: &[u32], c: usize) -> u32
     requires { ⌜ (c < registers.linkChans) × Room 0 w ⌝ }
     ensures { λ r. ⌜ (r ≡ links.taken (now (mem .entry)) c (view w)) × (r < 256) ⌝ }
@@ -55,6 +54,7 @@ pub fn taken(w: Plan, mem: &[u32], c: usize) -> u32
     byte_at(w, mem, w.regs[p])
 }
 
+// Loads the byte at the pointer and advances the transfer.
 pub fn take_byte(w: Plan, mem: &[u32], c: usize) -> Plan
     requires { ⌜ (c < registers.linkChans) × Room 0 w ⌝ }
     ensures { λ r. ⌜ (view r ≡ links.takeByte (now (mem .entry)) c (view w)) × Grown 0 w r ⌝ }
@@ -63,6 +63,7 @@ pub fn take_byte(w: Plan, mem: &[u32], c: usize) -> Plan
     advance(load_byte(w, mem, w.regs[p]), c)
 }
 
+// Takes a byte from a moving link; refuses with NOT_READY where the link is not moving.
 pub fn take(w: Plan, mem: &[u32], c: usize) -> Plan
     requires { ⌜ (c < registers.linkChans) × Room 0 w ⌝ }
     ensures { λ r. ⌜ (view r ≡ links.take (now (mem .entry)) c (view w)) × Grown 0 w r ⌝ }
@@ -73,7 +74,7 @@ pub fn take(w: Plan, mem: &[u32], c: usize) -> Plan
     refuse(w, NOT_READY)
 }
 
-// A byte is stored at the pointer.
+// Stores the byte at the pointer and advances the transfer.
 pub fn receive(w: Plan, mem: &[u32], c: usize, byte: u32) -> Plan
     requires { ⌜ (c < registers.linkChans) × (byte < 256) × Room 1 w ⌝ }
     ensures { λ r. ⌜ (view r ≡ links.receive (now (mem .entry)) c byte (view w)) × Grown 1 w r ⌝ }
@@ -82,6 +83,7 @@ pub fn receive(w: Plan, mem: &[u32], c: usize, byte: u32) -> Plan
     advance(store_byte(w, mem, w.regs[p], byte), c)
 }
 
+// Gives a byte to a moving link, else holds the byte; refuses with NOT_READY where one is held.
 pub fn give(w: Plan, mem: &[u32], c: usize, byte: u32) -> Plan
     requires { ⌜ (c < registers.linkChans) × (byte < 256) × Room 1 w ⌝ }
     ensures { λ r. ⌜ (view r ≡ links.give (now (mem .entry)) c byte (view w)) × Grown 1 w r ⌝ }

@@ -1,6 +1,4 @@
-// What the calls take, give and event share, in registers alone: a transfer's progress and end, and what a channel holds (01, Links, clocks,
-// slice). Each function is the code of a definition of rules/specs/Links.antt. The words of channel c stand at 3 * c from the registers of
-// channel 0.
+// What take, give and event share, in registers alone (01, Links, clocks, slice).
 use plan::Plan;
 use plan::lower;
 use plan::put;
@@ -16,7 +14,7 @@ ghost use Rattle.rules.specs.Registers as registers;
 ghost use Rattle.rules.specs.Links as links;
 ghost use Rattle.plan.specs.View.{view, Grown};
 
-// A link is moving when it is active and its count is not 0.
+// Tests whether a link is moving: active, and its count is not 0.
 pub fn moving(w: Plan, c: usize) -> bool
     requires { ⌜ c < registers.linkChans ⌝ }
     ensures { λ r. ⌜ r ≡ links.ifMoving c (view w) true false ⌝ }
@@ -32,7 +30,7 @@ pub fn moving(w: Plan, c: usize) -> bool
     true
 }
 
-// Active is cleared and the run request set.
+// Ends the transfer: clears active and sets the run request.
 pub fn transfer_ends(w: Plan, c: usize) -> Plan
     requires { ⌜ c < registers.linkChans ⌝ }
     ensures { λ r. ⌜ (view r ≡ links.transferEnds c (view w)) × Grown 0 w r ⌝ }
@@ -41,6 +39,7 @@ pub fn transfer_ends(w: Plan, c: usize) -> Plan
     raise(lower(w, k, ACTIVE_BIT), k, RUN_REQUEST)
 }
 
+// Ends the transfer where its count is 0.
 pub fn end_at_zero(w: Plan, c: usize) -> Plan
     requires { ⌜ c < registers.linkChans ⌝ }
     ensures { λ r. ⌜ (view r ≡ links.endAtZero c (view w)) × Grown 0 w r ⌝ }
@@ -52,7 +51,7 @@ pub fn end_at_zero(w: Plan, c: usize) -> Plan
     w
 }
 
-// The pointer grows by one, the count falls by one, and at 0 the transfer ends.
+// Adds 1 to the pointer, subtracts 1 from the count, and ends the transfer at 0.
 pub fn advance(w: Plan, c: usize) -> Plan
     requires { ⌜ c < registers.linkChans ⌝ }
     ensures { λ r. ⌜ (view r ≡ links.advance c (view w)) × Grown 0 w r ⌝ }
@@ -64,7 +63,7 @@ pub fn advance(w: Plan, c: usize) -> Plan
     end_at_zero(put(put(w, p, pointer), k, count), c)
 }
 
-// Enabled becomes the ready request.
+// Clears enabled and sets the ready request, where enabled is set.
 pub fn notice_held(w: Plan, c: usize) -> Plan
     requires { ⌜ c < registers.linkChans ⌝ }
     ensures { λ r. ⌜ (view r ≡ links.noticeHeld c (view w)) × Grown 0 w r ⌝ }
@@ -76,7 +75,7 @@ pub fn notice_held(w: Plan, c: usize) -> Plan
     raise(lower(w, k, ENABLED_BIT), k, READY_REQUEST)
 }
 
-// A link that is not moving holds a byte.
+// Holds a byte on a link that is not moving.
 pub fn hold(w: Plan, c: usize, byte: u32) -> Plan
     requires { ⌜ (c < registers.linkChans) × (byte < 256) ⌝ }
     ensures { λ r. ⌜ (view r ≡ links.hold c byte (view w)) × Grown 0 w r ⌝ }

@@ -10,7 +10,7 @@ use lib.Seq.{getD-set-same, getD-set-other}
 use Rattle.rules.specs.Words.{byteOf, withByte}
 use Rattle.rules.specs.Memory.{byteIn, setByteIn}
 
--- ---- of a word
+-- ---- a byte of a word
 
 byte-lt : (j w : ℕ) → byteOf j w < 256
 byte-lt j w = omega arith
@@ -45,7 +45,7 @@ other-byte (suc zero) (suc (suc (suc (suc j)))) b w h k l n = absurd (omega arit
 other-byte (suc (suc zero)) (suc (suc (suc (suc j)))) b w h k l n = absurd (omega arith)
 other-byte (suc (suc (suc zero))) (suc (suc (suc (suc j)))) b w h k l n = absurd (omega arith)
 
--- a word of 32 bits stays one
+-- a word with one byte replaced stays below 2 ^ 32
 pub with-small : (j b w : ℕ) → j < 4 → b < 256 → w < 2 ^ 32 → withByte j b w < 2 ^ 32
 with-small zero b w h k l = omega arith
 with-small (suc zero) b w h k l = omega arith
@@ -53,15 +53,15 @@ with-small (suc (suc zero)) b w h k l = omega arith
 with-small (suc (suc (suc zero))) b w h k l = omega arith
 with-small (suc (suc (suc (suc j)))) b w h k l = absurd (omega arith)
 
--- the word of four bytes
-four : (w : ℕ) → w < 2 ^ 32 → byteOf 0 w + 256 * byteOf 1 w + 65536 * byteOf 2 w + 16777216 * byteOf 3 w ≡ w
-four w h =
+-- a word is the sum of its four bytes
+sum-of-bytes : (w : ℕ) → w < 2 ^ 32 → byteOf 0 w + 256 * byteOf 1 w + 65536 * byteOf 2 w + 16777216 * byteOf 3 w ≡ w
+sum-of-bytes w h =
     let a : w / 65536 ≡ w / 256 / 256 = omega arith in
     let b : w / 16777216 ≡ w / 65536 / 256 = omega arith in
     let c : w / 16777216 % 256 ≡ w / 16777216 = mod-eq-of-lt (omega arith) in
     omega (arith, a, b, c)
 
--- ---- of a memory
+-- ---- a byte of a memory
 
 pub byte-in-lt : (m : List ℕ) (o : ℕ) → byteIn m o < 256
 unfolding byteIn
@@ -98,7 +98,7 @@ byte-at m i j h =
     let f : (4 * i + j) % 4 ≡ j = omega arith in
     rw (e, f)
 
--- a word out of its four bytes
+-- a word of a memory is the sum of its four bytes
 pub from-bytes : (m : List ℕ) (i a b c d : ℕ) → getD m i 0 < 2 ^ 32
     → a ≡ byteIn m (4 * i) → b ≡ byteIn m (4 * i + 1) → c ≡ byteIn m (4 * i + 2) → d ≡ byteIn m (4 * i + 3)
     → a + 256 * b + 65536 * c + 16777216 * d ≡ getD m i 0
@@ -108,4 +108,4 @@ from-bytes m i a b c d h p q r s =
     let q′ : b ≡ byteOf 1 (getD m i 0) = q ∙ byte-at m i 1 (omega arith) in
     let r′ : c ≡ byteOf 2 (getD m i 0) = r ∙ byte-at m i 2 (omega arith) in
     let s′ : d ≡ byteOf 3 (getD m i 0) = s ∙ byte-at m i 3 (omega arith) in
-    rw (p′, q′, r′, s′) (four (getD m i 0) h)
+    rw (p′, q′, r′, s′) (sum-of-bytes (getD m i 0) h)

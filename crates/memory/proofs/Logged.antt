@@ -1,4 +1,4 @@
--- The log of a plan: two arrays of 16 as stores of words, and a move among them.
+-- The stores of a plan as a list: two arrays of 16 as single stores, and a move among them.
 use mathlib.Core.Path.{_≡_, refl, ap, _∙_}
 use mathlib.Core.List.{List, [], _∷_, _++_, append-assoc}
 use Prim.Native.Nat.{ℕ, zero, suc, _+_, _-_, _≤_, _<_}
@@ -33,23 +33,23 @@ module _ (ix vs : List ℕ) (lx : length ix ≡ 16) (lv : length vs ≡ 16) wher
   abbrev ss : List Store
   ss = singles ix vs
 
-  both : length ix ≡ length vs
-  both = omega arith
+  equal-lengths : length ix ≡ length vs
+  equal-lengths = omega arith
 
-  sixteen : length ss ≡ 16
-  sixteen = singles-length ix vs both ∙ lx
+  singles-sixteen : length ss ≡ 16
+  singles-sixteen = singles-length ix vs equal-lengths ∙ lx
 
-  -- the last of the stores from f up to k
+  -- splits off the last of the single stores f to k - 1
   last-one : (f k : ℕ) → f < k → k ≤ 16 → slice f k ss ≡ slice f (k - 1) ss ++ (word (getD ix (k - 1) 0) (getD vs (k - 1) 0) ∷ [])
   last-one f zero z h = absurd (omega arith)
   last-one f (suc k) z h =
-      let q : k < length ss = omega (arith, sixteen) in
+      let q : k < length ss = omega (arith, singles-sixteen) in
       let e : suc k - 1 ≡ k = omega arith in
       let l : f ≤ length (take k ss) = omega (arith, length-take-le k ss (omega arith)) in
-      rw (e, take-suc ss k (word 0 0) q, singles-at ix vs k both)
+      rw (e, take-suc ss k (word 0 0) q, singles-at ix vs k equal-lengths)
       (drop-append-le f (take k ss) (word (getD ix k 0) (getD vs k 0) ∷ []) l)
 
-  -- a read through the stores from f up to k, by the last of them
+  -- ---- a read after the single stores f to k - 1, by the last of them
   pub through-here : (m : List ℕ) (i f k : ℕ) → f < k → k ≤ 16 → i < length m → getD ix (k - 1) 0 ≡ i
       → getD (stores m (slice f k ss)) i 0 ≡ getD vs (k - 1) 0
   through-here m i f k z h l e =
@@ -64,12 +64,12 @@ module _ (ix vs : List ℕ) (lx : length ix ≡ 16) (lv : length vs ≡ 16) wher
   unfolding stores
   through-none m f k e = rw (e, slice-empty k ss)
 
-  -- one store more
+  -- appending a single store
   pub logged-more : (n cut s d c i v : ℕ) → cut ≤ n → n < 16
       → logged (set ix n i) (set vs n v) (n + 1) cut s d c ≡ logged ix vs n cut s d c ++ (word i v ∷ [])
   unfolding logged
   logged-more n cut s d c i v h k =
-      let q : n < length ss = omega (arith, sixteen) in
+      let q : n < length ss = omega (arith, singles-sixteen) in
       let l : cut ≤ length (take n ss) = omega (arith, length-take-le n ss (omega arith)) in
       let last : List Store = word i v ∷ [] in
       rw (
@@ -82,18 +82,18 @@ module _ (ix vs : List ℕ) (lx : length ix ≡ 16) (lv : length vs ≡ 16) wher
         append-assoc (moves s d c) (drop cut (take n ss)) last,
       )
 
-  -- without a move the log is the first n
+  -- without a move the list is the first n single stores
   pub logged-plain : (n cut s d c : ℕ) → cut ≤ n → c ≡ 0 → logged ix vs n cut s d c ≡ take n ss
   unfolding logged
   logged-plain n cut s d c h e = rw (e, ← take-take cut n ss h) (take-append-drop cut (take n ss))
 
-  -- the move after all of them
+  -- appending the move
   pub logged-move : (n s d c : ℕ) → 0 < c → logged ix vs n n s d c ≡ take n ss ++ (bytes s d c ∷ [])
   unfolding logged
   logged-move n s d zero h = absurd (omega arith)
   logged-move n s d (suc c) h = rw (slice-empty n ss)
 
--- what memory holds after a plan's stores
+-- memory after the stores of a plan, in three parts
 pub through-log : (m ix vs : List ℕ) (n cut s d c : ℕ)
     → stores m (logged ix vs n cut s d c) ≡ stores (stores (stores m (take cut (singles ix vs))) (moves s d c)) (slice cut n (singles ix vs))
 unfolding logged

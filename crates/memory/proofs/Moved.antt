@@ -1,4 +1,4 @@
--- The byte at each place after a move, in closed form.
+-- Each byte after a move, in closed form.
 use mathlib.Core.Path.{_≡_, refl, ap, _∙_}
 use mathlib.Core.List.{List}
 use Prim.Native.Nat.{ℕ, zero, suc, _+_, _-_, _*_, _/_, _%_, _^_, _≤_, _<_}
@@ -19,7 +19,7 @@ moved-length zero m s d = refl
 moved-length (suc n) m s d =
     moved-length n (setByteIn m d (byteIn m s)) (s + 1) (d + 1) ∙ set-byte-length m d (byteIn m s)
 
--- outside of what is written, each byte is as it was
+-- a byte that the move does not write stays
 moved-out : (n : ℕ) (m : List ℕ) (s d a : ℕ) → d + n ≤ 4 * length m → (d ≤ a → a < d + n → ⊥)
     → byteIn (moved m s d n) a ≡ byteIn m a
 unfolding moved
@@ -29,7 +29,7 @@ moved-out (suc n) m s d a h o =
     (omega (arith, set-byte-length m d (byteIn m s))) (λ p q. o (omega arith) (omega arith))
     ∙ byte-other m d (byteIn m s) (omega arith) (byte-in-lt m s) a (λ e. o (omega arith) (omega arith))
 
--- a move down, or to where it came from, copies
+-- a move down, or onto its own place, copies
 moved-down : (n : ℕ) (m : List ℕ) (s d a : ℕ) → d + n ≤ 4 * length m → d ≤ s → d ≤ a → a < d + n
     → byteIn (moved m s d n) a ≡ byteIn m (s + (a - d))
 unfolding moved
@@ -82,7 +82,7 @@ moved-up (suc n) m s d a h v p q =
           ])
     ]
 
--- all three
+-- the byte at any place after a move
 pub came-byte : (m : List ℕ) (s d n a : ℕ) → d + n ≤ 4 * length m → byteIn (moved m s d n) a ≡ byteIn m (cameFrom s d n a)
 unfolding cameFrom
 came-byte m s d n a h =
@@ -101,6 +101,7 @@ came-byte m s d n a h =
           ]
     ]
 
+-- a byte comes from inside memory
 pub came-lt : (l s d n a : ℕ) → s + n ≤ l → d + n ≤ l → a < l → cameFrom s d n a < l
 unfolding cameFrom
 came-lt l s d n a h k b =
@@ -119,7 +120,7 @@ came-lt l s d n a h k b =
 
 -- ---- words after a move
 
--- a word of 32 bits stays one
+-- a move keeps words below 2 ^ 32
 pub moved-small : (n : ℕ) (m : List ℕ) (s d i : ℕ) → d + n ≤ 4 * length m → getD m i 0 < 2 ^ 32
     → getD (moved m s d n) i 0 < 2 ^ 32
 unfolding moved setByteIn
@@ -136,7 +137,7 @@ moved-small (suc n) m s d i h b =
       | no e ↦ rw (getD-set-other m (d / 4) i w 0 e) b
     ])
 
--- a word that the move does not reach is as it was
+-- a word that the move does not reach stays
 pub moved-word : (n : ℕ) (m : List ℕ) (s d i : ℕ) → (d / 4 ≤ i → 4 * i < d + n → ⊥) → getD (moved m s d n) i 0 ≡ getD m i 0
 unfolding moved setByteIn
 moved-word zero m s d i o = refl

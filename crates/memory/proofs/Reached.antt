@@ -1,4 +1,4 @@
--- The first access of a move that is outside memory, in closed form.
+-- The first access of a move outside memory, in closed form.
 use mathlib.Core.Path.{_≡_, refl, ap, _∙_}
 use mathlib.Core.List.{List}
 use Prim.Native.Nat.{ℕ, zero, suc, _-_, _*_, _^_, _≤_, _<_, min}
@@ -35,7 +35,7 @@ reach-is (suc n) size a h =
     (λ p. omega (arith, reach-in size a n p, reach-is n size (atByte a 1) h))
     (λ p. omega (arith, reach-out size a n p))
 
--- a memory of 2 ^ 32 bytes or more has all addresses
+-- a memory of 2 ^ 32 bytes or more has every address
 pub reach-all : (n size a : ℕ) → 2 ^ 30 ≤ size → reach size a n ≡ n
 unfolding reach
 reach-all zero size a h = refl
@@ -43,7 +43,7 @@ reach-all (suc n) size a h =
     let p : index a < size = omega arith in
     omega (arith, reach-in size a n p, reach-all n size (atByte a 1) h)
 
--- ---- the first access outside, by how far source and destination reach
+-- ---- the first access outside memory, by the reach of source and destination
 
 module _ (m : List ℕ) where
   abbrev size : ℕ

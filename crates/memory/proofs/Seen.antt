@@ -1,4 +1,4 @@
--- What a load sees: a store of the same call, and bytes that the same call has moved.
+-- What a load reads after a store, and after a move, of the same call.
 use mathlib.Core.Path.{_≡_, refl, sym, _∙_}
 use mathlib.Core.List.{List, [], _∷_}
 use Prim.Native.Nat.{ℕ, zero, suc, _+_, _-_, _*_, _%_, _^_, _≤_, _<_}
@@ -16,7 +16,7 @@ use Rattle.memory.proofs.Moved.{came-byte}
 use Rattle.memory.proofs.Stored.{stores-length, stores-append, read-here, move-inside}
 use Rattle.memory.proofs.Reached.{reach-is, outside-none}
 
--- a byte at an address is one of memory after the stores, at its place
+-- the byte at an address is that of memory after the stores, at its place
 byte-at-in : (m : List ℕ) (a : ℕ) (w : Work) → byteAt m a w ≡ byteIn (stores m (w .stored)) (offset a)
 unfolding byteAt wordAt byteIn
 byte-at-in m a w = let e : offset a % 4 ≡ a % 4 = omega arith in rw e
@@ -43,7 +43,7 @@ module _ (m : List ℕ) (w : Work) (clear : w .answer ≡ 0) where
         one zero h = absurd (omega arith)
         one (suc c) h = refl
 
-    -- each moved byte, wherever source and destination overlap
+    -- each moved byte, however source and destination overlap
     pub load-after-move : (i : ℕ) → i < n
         → byteAt m (atByte d i) (transfer m s d n w) ≡ byteIn (stores m (w .stored)) (cameFrom (offset s) (offset d) n (offset d + i))
     load-after-move i h =
@@ -53,7 +53,7 @@ module _ (m : List ℕ) (w : Work) (clear : w .answer ≡ 0) where
         ∙ rw (after-move (omega arith), e)
         (came-byte (stores m (w .stored)) (offset s) (offset d) n (offset d + i) (omega arith))
 
-    -- it is the byte loaded from the source, where the move does not run up into itself
+    -- the byte loaded from the source, where the move is not up onto itself
     pub load-moved : (i : ℕ) → i < n → (offset s < offset d → offset s + n ≤ offset d)
         → byteAt m (atByte d i) (transfer m s d n w) ≡ byteAt m (atByte s i) w
     unfolding cameFrom
@@ -70,7 +70,7 @@ module _ (m : List ℕ) (w : Work) (clear : w .answer ≡ 0) where
         (λ x. let y : i < offset d - offset s = (let f = apart x in omega arith) in rw (yes-lt x, mod-eq-of-lt y))
         (λ x. rw (no-lt x))))
 
--- ---- a worked run: a store, four bytes moved up by one onto themselves, a load
+-- ---- computed: a store, four bytes moved up by one onto themselves, a load
 
 abbrev memory : List ℕ
 memory = 0x4433_2211 ∷ 0x8877_6655 ∷ []

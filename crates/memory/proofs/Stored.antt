@@ -1,4 +1,4 @@
--- Memory after a list of stores: its length, and what a read finds.
+-- Memory after a list of stores: its length, and what a read returns.
 use mathlib.Core.Path.{_≡_, refl, sym, _∙_}
 use mathlib.Core.Bool.{Bool, true, false, _&&_}
 use mathlib.Core.List.{List, [], _∷_, _++_}
@@ -29,7 +29,7 @@ unfolding stores
 stores-append [] b m = refl
 stores-append (s ∷ a) b m = stores-append a b (storing m s)
 
--- ---- a read sees the last store to its word
+-- ---- a read returns the last store to its word
 
 pub read-here : (ss : List Store) (m : List ℕ) (i v : ℕ) → i < length m → getD (stores m (ss ++ (word i v ∷ []))) i 0 ≡ v
 unfolding stores storing

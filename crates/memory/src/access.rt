@@ -1,4 +1,4 @@
-// An access of a plan (000 1.5) and a fetch: refused outside memory. Memory is only read.
+// Accesses (000 1.5), and the fetch of an instruction byte (01, One step (c)).
 use plan::Plan;
 use plan::refuse_at;
 use rules::names::*;
@@ -7,7 +7,7 @@ ghost use mathlib.Core.Path.{_≡_};
 ghost use Rattle.rules.specs.Work as work;
 ghost use Rattle.plan.specs.View.{view, Grown};
 
-// An access of a kind at an address: refused outside memory.
+// Refuses an access with OUTSIDE where the address is outside memory. kind is KIND_FETCH, KIND_LOAD or KIND_STORE.
 pub fn access(w: Plan, mem: &[u32], kind: u32, a: u32) -> Plan
     ensures { λ r. ⌜ (view r ≡ work.access (now (mem .entry)) kind a (view w)) × Grown 0 w r ⌝ }
 {
@@ -17,6 +17,7 @@ pub fn access(w: Plan, mem: &[u32], kind: u32, a: u32) -> Plan
     refuse_at(w, OUTSIDE, kind, a)
 }
 
+// Makes the access of a fetch.
 pub fn fetch_byte(w: Plan, mem: &[u32], a: u32) -> Plan
     ensures { λ r. ⌜ (view r ≡ work.access (now (mem .entry)) work.kindFetch a (view w)) × Grown 0 w r ⌝ }
 {

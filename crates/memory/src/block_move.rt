@@ -1,4 +1,4 @@
-// The block move (000 1.10) in one step (01, One step): where it first leaves memory, and its place in the plan, or its refusal.
+// The block move (000 1.10) in one step (01, One step): appended to the plan, or refused at its first access outside memory (DECISIONS 47).
 use plan::Plan;
 use plan::refuse_at;
 use rules::names::*;
@@ -12,17 +12,17 @@ ghost use Rattle.rules.specs.Work as work;
 ghost use Rattle.plan.specs.View.{view, Room, Ended};
 ghost use Rattle.memory.specs.Places as places;
 
-// The first access of a move that is outside memory; kind 0 where there is none.
+// The first access of a move outside memory; kind 0 where all are inside.
 pub struct First {
     pub kind: u32,
     pub address: u32,
 }
 
-// How many of the n bytes from an address come before the first that is outside memory.
+// Counts the bytes from address a, at most n, before the first one outside memory.
 fn reach(mem: &[u32], a: u32, n: u32) -> u32
     ensures { λ r. ⌜ r ≡ places.reach (length (now (mem .entry))) a n ⌝ }
 {
-    // So much memory has every address.
+    // A memory of 2^30 words has every address.
     if 0x4000_0000 <= mem.len() {
         return n;
     }
@@ -38,7 +38,7 @@ fn reach(mem: &[u32], a: u32, n: u32) -> u32
     room as u32
 }
 
-// Bytes go in rising order, each loaded just before it is stored; so at the same byte the load is first.
+// Finds the first access of a move outside memory. Each byte is loaded and then stored, in rising order: at the same byte the load comes first.
 pub fn move_outside(mem: &[u32], source: u32, destination: u32, n: u32) -> First
     ensures { λ r. ⌜ (r .kind, r .address) ≡ work.moveOutside (now (mem .entry)) source destination n ⌝ }
 {
@@ -62,7 +62,7 @@ pub fn move_outside(mem: &[u32], source: u32, destination: u32, n: u32) -> First
     }
 }
 
-// The move after the stores so far, where nothing is refused.
+// Appends the move after the stores so far, unless the plan is refused.
 pub fn append_move(w: Plan, s: u32, d: u32, n: u32) -> Plan
     requires { ⌜ (0 < n) × Room 0 w × (w .count ≡ 0) ⌝ }
     ensures { λ r. ⌜ (view r ≡ work.append (bytes s d n) (view w)) × Ended 0 w r ⌝ }
@@ -79,7 +79,7 @@ pub fn append_move(w: Plan, s: u32, d: u32, n: u32) -> Plan
     w
 }
 
-// All bytes of a move, or the refusal of its first access outside memory; count 0 moves nothing.
+// Moves n bytes, or refuses the first access outside memory; a count of 0 moves nothing.
 pub fn transfer(w: Plan, mem: &[u32], source: u32, destination: u32, n: u32) -> Plan
     requires { ⌜ Room 0 w × (w .count ≡ 0) ⌝ }
     ensures { λ r. ⌜ (view r ≡ work.transfer (now (mem .entry)) source destination n (view w)) × Ended 0 w r ⌝ }

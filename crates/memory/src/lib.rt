@@ -1,6 +1,7 @@
-// HEAD memory
-pub mod loads; // What a load sees: memory, as the stores and the moved bytes of a plan have changed it. Memory is only read.
-pub mod through; // Reads through the stores of a call: the single stores after the move, the move, those before it, memory.
-pub mod access; // An access of a plan (000 1.5) and a fetch: refused outside memory. Memory is only read.
-pub mod store; // The loads and stores of a plan (000 1.5), each refused outside memory. Memory is only read; a store is added to the plan. A fetch is in the
-pub mod block_move; // The block move (000 1.10) in one step (01, One step): where it first leaves memory, and its place in the plan, or its refusal.
+// The accesses of a plan (000 1.5; 01, One step): fetches, loads, stores and the block move, each refused outside memory. Memory is only read;
+// a store goes into the plan. The definitions are in rules/specs/Work.antt (the accesses) and rules/specs/Memory.antt (lists of stores).
+pub mod through; // a word of memory after the stores of a plan
+pub mod loads; // the word or byte that a load reads
+pub mod access; // an access, refused outside memory; the fetch
+pub mod store; // loads, stores, RIndexWord, RIndexByte, WIndexWord
+pub mod block_move; // the block move in one step

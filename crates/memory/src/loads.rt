@@ -1,4 +1,4 @@
-// What a load sees: memory, as the stores and the moved bytes of a plan have changed it. Memory is only read.
+// The value of a load: memory after the stores and the move of the plan.
 use crate::through::latest;
 use crate::through::word_between;
 use plan::Plan;
@@ -10,9 +10,7 @@ ghost use Prim.Native.Nat.{_<_};
 ghost use Rattle.rules.specs.Work as work;
 ghost use Rattle.plan.specs.View.{view, Room};
 
-// ---- reads through the stores of the call
-
-// The word at an address, through the stores so far; 0 outside memory.
+// Reads the word at address a after the stores of the plan; 0 outside memory.
 pub fn word_at(w: Plan, mem: &[u32], a: u32) -> u32
     requires { ⌜ Room 0 w ⌝ }
     ensures { λ r. ⌜ r ≡ work.wordAt (now (mem .entry)) a (view w) ⌝ }
@@ -26,6 +24,7 @@ pub fn word_at(w: Plan, mem: &[u32], a: u32) -> u32
     latest(w, cut, n, i, word_between(w, mem, i))
 }
 
+// Reads the byte at address a after the stores of the plan; 0 outside memory.
 pub fn byte_at(w: Plan, mem: &[u32], a: u32) -> u32
     requires { ⌜ Room 0 w ⌝ }
     ensures { λ r. ⌜ (r ≡ work.byteAt (now (mem .entry)) a (view w)) × (r < 256) ⌝ }

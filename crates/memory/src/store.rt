@@ -1,5 +1,4 @@
-// The loads and stores of a plan (000 1.5), each refused outside memory. Memory is only read; a store is added to the plan. A fetch is in the
-// crate access, the block move in block.
+// Loads and stores of a plan (000 1.5).
 use crate::access::access;
 use crate::loads::byte_at;
 use crate::loads::word_at;
@@ -17,19 +16,21 @@ ghost use Rattle.rules.specs.Work as work;
 ghost use Rattle.rules.specs.Registers as registers;
 ghost use Rattle.plan.specs.View.{view, Room, Grown};
 
+// Makes the access of a load; loads::word_at reads the word.
 pub fn load_word(w: Plan, mem: &[u32], a: u32) -> Plan
     ensures { λ r. ⌜ (view r ≡ work.access (now (mem .entry)) work.kindLoad a (view w)) × Grown 0 w r ⌝ }
 {
     access(w, mem, KIND_LOAD, a)
 }
 
+// Makes the access of a load; loads::byte_at reads the byte.
 pub fn load_byte(w: Plan, mem: &[u32], a: u32) -> Plan
     ensures { λ r. ⌜ (view r ≡ work.access (now (mem .entry)) work.kindLoad a (view w)) × Grown 0 w r ⌝ }
 {
     access(w, mem, KIND_LOAD, a)
 }
 
-// One single store more, where nothing is refused.
+// Appends a single store, unless the plan is refused.
 fn append_word(w: Plan, i: u32, v: u32) -> Plan
     requires { ⌜ Room 1 w ⌝ }
     ensures { λ r. ⌜ (view r ≡ work.append (word i v) (view w)) × Grown 1 w r ⌝ }
@@ -45,6 +46,7 @@ fn append_word(w: Plan, i: u32, v: u32) -> Plan
     w
 }
 
+// Stores word v at address a.
 pub fn store_word(w: Plan, mem: &[u32], a: u32, v: u32) -> Plan
     requires { ⌜ Room 1 w ⌝ }
     ensures { λ r. ⌜ (view r ≡ work.storeWord (now (mem .entry)) a v (view w)) × Grown 1 w r ⌝ }
@@ -52,7 +54,7 @@ pub fn store_word(w: Plan, mem: &[u32], a: u32, v: u32) -> Plan
     append_word(access(w, mem, KIND_STORE, a), index_of(a), v)
 }
 
-// A store of a byte is a store of its word.
+// Stores byte b at address a, as a store of its word (DECISIONS 38).
 pub fn store_byte(w: Plan, mem: &[u32], a: u32, b: u32) -> Plan
     requires { ⌜ (b < 256) × Room 1 w ⌝ }
     ensures { λ r. ⌜ (view r ≡ work.storeByte (now (mem .entry)) a b (view w)) × Grown 1 w r ⌝ }
@@ -61,7 +63,7 @@ pub fn store_byte(w: Plan, mem: &[u32], a: u32, b: u32) -> Plan
     append_word(access(w, mem, KIND_STORE, a), index_of(a), v)
 }
 
-// RIndexWord (Base, N, register k).
+// RIndexWord (000 1.5): loads the word n words after base into register k.
 pub fn r_index_word(w: Plan, mem: &[u32], base: u32, n: u32, k: usize) -> Plan
     requires { ⌜ (k < registers.registers) × Room 0 w ⌝ }
     ensures { λ r. ⌜ (view r ≡ work.rIndexWord (now (mem .entry)) base n k (view w)) × Grown 0 w r ⌝ }
@@ -71,7 +73,7 @@ pub fn r_index_word(w: Plan, mem: &[u32], base: u32, n: u32, k: usize) -> Plan
     put(load_word(w, mem, a), k, v)
 }
 
-// RIndexByte (Base, 0, register k).
+// RIndexByte (000 1.5), with index 0: loads the byte at base into register k.
 pub fn r_index_byte(w: Plan, mem: &[u32], base: u32, k: usize) -> Plan
     requires { ⌜ (k < registers.registers) × Room 0 w ⌝ }
     ensures { λ r. ⌜ (view r ≡ work.rIndexByte (now (mem .entry)) base k (view w)) × Grown 0 w r ⌝ }
@@ -80,7 +82,7 @@ pub fn r_index_byte(w: Plan, mem: &[u32], base: u32, k: usize) -> Plan
     put(load_byte(w, mem, base), k, v)
 }
 
-// WIndexWord (Base, N, X).
+// WIndexWord (000 1.5): stores v in the word n words after base.
 pub fn w_index_word(w: Plan, mem: &[u32], base: u32, n: u32, v: u32) -> Plan
     requires { ⌜ Room 1 w ⌝ }
     ensures { λ r. ⌜ (view r ≡ work.wIndexWord (now (mem .entry)) base n v (view w)) × Grown 1 w r ⌝ }

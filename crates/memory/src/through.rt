@@ -1,4 +1,4 @@
-// Reads through the stores of a call: the single stores after the move, the move, those before it, memory.
+// A word of memory after the stores of a plan: the single stores before the move, the move, then the single stores after it.
 use plan::Plan;
 use words::byte_of;
 ghost use mathlib.Core.Path.{_≡_};
@@ -10,7 +10,7 @@ ghost use Rattle.rules.specs.Memory.{byteIn, moved, stores};
 ghost use Rattle.plan.specs.View.{singles, moves};
 ghost use Rattle.memory.specs.Places as places;
 
-// The value of the last of the single stores from f up to t to word i, or v, which is what the word held before them.
+// Finds the last of the single stores f to t - 1 that goes to word i, and returns its value; returns v, the word before them, where none does.
 pub fn latest(w: Plan, f: usize, t: usize, i: u32, v: u32) -> u32
     requires { ⌜ (f ≤ t) × (t ≤ 16) ⌝ }
     ensures { λ r. ⌜ ((m : List ℕ) → i < length m → getD m i 0 ≡ v → r ≡ getD (stores m (slice f t (singles (w .ix) (w .vs)))) i 0) ⌝ }
@@ -25,7 +25,7 @@ pub fn latest(w: Plan, f: usize, t: usize, i: u32, v: u32) -> u32
     v
 }
 
-// Word i after the stores before the move.
+// Reads word i after the single stores before the move.
 fn word_before(w: Plan, mem: &[u32], i: u32) -> u32
     requires { ⌜ (i < length (now mem)) × (w .cut ≤ 16) ⌝ }
     ensures { λ r. ⌜ r ≡ getD (stores (now (mem .entry)) (take (w .cut) (singles (w .ix) (w .vs)))) i 0 ⌝ }
@@ -35,7 +35,7 @@ fn word_before(w: Plan, mem: &[u32], i: u32) -> u32
     latest(w, 0, cut, i, mem[at])
 }
 
-// The place from which the byte at a comes.
+// Finds the place from which the byte at place a comes, in a move of n bytes from s to d. A move up onto itself repeats its first d - s bytes.
 fn came_from(s: usize, d: usize, n: usize, a: usize) -> usize
     requires { ⌜ (s + n < 17179869184) × (d + n < 17179869184) ⌝ }
     ensures { λ r. ⌜ r ≡ places.cameFrom s d n a ⌝ }
@@ -52,7 +52,7 @@ fn came_from(s: usize, d: usize, n: usize, a: usize) -> usize
     a
 }
 
-// The byte at place a after the stores before the move and the move, which is inside memory.
+// Reads the byte at place a after the move. The move lies inside memory.
 fn byte_moved(w: Plan, mem: &[u32], a: usize) -> u32
     requires { ⌜ (a < 4 * length (now mem)) × (a < 4294967296) × (w .source + w .count ≤ 4 * length (now mem)) × (w .target + w .count ≤ 4 * length (now mem)) × (w .cut ≤ 16) ⌝ }
     ensures { λ r. ⌜ (r ≡ byteIn (moved (stores (now (mem .entry)) (take (w .cut) (singles (w .ix) (w .vs)))) (w .source) (w .target) (w .count)) a) × (r < 256) ⌝ }
@@ -62,7 +62,7 @@ fn byte_moved(w: Plan, mem: &[u32], a: usize) -> u32
     byte_of((from % 4) as u32, x)
 }
 
-// Word i after the stores before the move and the move, which is inside memory.
+// Reads word i after the move. The move lies inside memory.
 fn word_moved(w: Plan, mem: &[u32], i: u32) -> u32
     requires { ⌜ (i < length (now mem)) × (i < 1073741824) × (w .source + w .count ≤ 4 * length (now mem)) × (w .target + w .count ≤ 4 * length (now mem)) × (w .cut ≤ 16) ⌝ }
     ensures { λ r. ⌜ r ≡ getD (moved (stores (now (mem .entry)) (take (w .cut) (singles (w .ix) (w .vs)))) (w .source) (w .target) (w .count)) i 0 ⌝ }
@@ -84,7 +84,7 @@ fn word_moved(w: Plan, mem: &[u32], i: u32) -> u32
     b0 + 256 * b1 + 65536 * b2 + 16777216 * b3
 }
 
-// Word i after the stores before the move and the move, if there is one and it is inside memory.
+// Reads word i after the single stores before the move, and after the move if the plan has one inside memory.
 pub fn word_between(w: Plan, mem: &[u32], i: u32) -> u32
     requires { ⌜ (i < length (now mem)) × (i < 1073741824) × (w .cut ≤ 16) ⌝ }
     ensures { λ r. ⌜ r ≡ getD (stores (stores (now (mem .entry)) (take (w .cut) (singles (w .ix) (w .vs)))) (moves (w .source) (w .target) (w .count))) i 0 ⌝ }
@@ -93,7 +93,7 @@ pub fn word_between(w: Plan, mem: &[u32], i: u32) -> u32
     if count == 0 {
         return word_before(w, mem, i);
     }
-    // Rounded up to words, so that nothing is asked of the length of memory.
+    // Counts words, rounded up: 4 * mem.len() may overflow.
     let source = w.source as usize;
     if mem.len() < (source + count + 3) / 4 {
         return word_before(w, mem, i);

@@ -1,6 +1,6 @@
-// A call being planned: the registers, the stores so far in program order (single words, and at most one move of bytes), and the first refusal.
-// Here is what changes no store. Nothing is written before a commit.
-pub mod operands; // What the operations that load and store do to the evaluation stack and to the two pointers of a plan, in registers alone. Each function is
+// The plan of a call (DECISIONS 44): registers, stores in program order (single words, at most one block move), first refusal. Memory changes
+// only at the commit. Here are the registers and refusals of a plan (rules/specs/Work.antt); accesses are in the crate memory.
+pub mod operands; // evaluation stack, Wptr and Iptr of a plan
 
 use rules::Attempt;
 use rules::Both;
@@ -14,8 +14,9 @@ ghost use Rattle.rules.specs.Work as work;
 ghost use Rattle.rules.specs.Registers as registers;
 ghost use Rattle.plan.specs.View.{view, Grown};
 
-// The single stores are the first n of ix and vs. The first cut of them come before the move of count bytes from source to target, which are
-// counted in bytes from the start of memory; nothing moves where count is 0.
+// ix and vs hold the indices and values of the n single stores. The first cut of them come before the move, the others after it. The move
+// copies count bytes from source to target, both in bytes from the start of memory; count 0 means no move. answer is the number of the first
+// refusal, or 0; kind and address are those of the access that was refused, or 0.
 pub struct Plan {
     pub regs: [u32; REGISTERS],
     pub ix: [u32; 16],
@@ -30,7 +31,7 @@ pub struct Plan {
     pub address: u32,
 }
 
-// Nothing done yet.
+// Starts a plan: no store, no move, no refusal.
 pub fn begin(regs: [u32; REGISTERS]) -> Plan
     ensures { λ r. ⌜ (view r ≡ work.begin regs) × (r .n ≡ 0) × (r .cut ≡ 0) × (r .count ≡ 0) ⌝ }
 {
@@ -49,7 +50,7 @@ pub fn begin(regs: [u32; REGISTERS]) -> Plan
     }
 }
 
-// A register is given a value.
+// Sets register k to v.
 pub fn put(w: Plan, k: usize, v: u32) -> Plan
     requires { ⌜ k < registers.registers ⌝ }
     ensures { λ r. ⌜ (view r ≡ work.put k v (view w)) × Grown 0 w r ⌝ }
@@ -59,7 +60,7 @@ pub fn put(w: Plan, k: usize, v: u32) -> Plan
     t
 }
 
-// Bits of a register set.
+// Sets the bits of mask in register k.
 pub fn raise(w: Plan, k: usize, mask: u32) -> Plan
     requires { ⌜ k < registers.registers ⌝ }
     ensures { λ r. ⌜ (view r ≡ work.raise k mask (view w)) × Grown 0 w r ⌝ }
@@ -68,7 +69,7 @@ pub fn raise(w: Plan, k: usize, mask: u32) -> Plan
     put(w, k, x | mask)
 }
 
-// Bits of a register cleared.
+// Clears the bits of mask in register k.
 pub fn lower(w: Plan, k: usize, mask: u32) -> Plan
     requires { ⌜ k < registers.registers ⌝ }
     ensures { λ r. ⌜ (view r ≡ work.lower k mask (view w)) × Grown 0 w r ⌝ }
@@ -77,14 +78,14 @@ pub fn lower(w: Plan, k: usize, mask: u32) -> Plan
     put(w, k, x & !mask)
 }
 
-// The step will end with StartNextProcess.
+// Sets GotoSNPBit: the step will end with StartNextProcess (000 1.10, Wait).
 pub fn goto_snp(w: Plan) -> Plan
     ensures { λ r. ⌜ (view r ≡ work.gotoSNP (view w)) × Grown 0 w r ⌝ }
 {
     raise(w, STATUS_REG, GOTO_SNP_BIT)
 }
 
-// The registers that most operations work on.
+// Reads registers 0 to 6, on which most operations work.
 pub fn core_of(w: Plan) -> Core
     ensures { λ r. ⌜ r ≡ registers.coreOf (w .regs) ⌝ }
 {
@@ -99,6 +100,7 @@ pub fn core_of(w: Plan) -> Core
     }
 }
 
+// Writes registers 0 to 6.
 pub fn put_core(w: Plan, s: Core) -> Plan
     ensures { λ r. ⌜ (view r ≡ work.putCore s (view w)) × Grown 0 w r ⌝ }
 {
@@ -113,7 +115,7 @@ pub fn put_core(w: Plan, s: Core) -> Plan
     t
 }
 
-// The registers of the queues and the clocks.
+// Reads the registers of the run queues and clocks, the prescaler and the flags.
 pub fn system_of(w: Plan) -> System
     ensures { λ r. ⌜ r ≡ registers.systemOf (w .regs) ⌝ }
 {
@@ -129,6 +131,7 @@ pub fn system_of(w: Plan) -> System
     }
 }
 
+// Writes the registers that system_of reads.
 pub fn put_system(w: Plan, y: System) -> Plan
     ensures { λ r. ⌜ (view r ≡ work.putSystem y (view w)) × Grown 0 w r ⌝ }
 {
@@ -144,6 +147,7 @@ pub fn put_system(w: Plan, y: System) -> Plan
     t
 }
 
+// Writes the registers of Core and of System.
 pub fn put_both(w: Plan, t: Both) -> Plan
     ensures { λ r. ⌜ (view r ≡ work.putBoth t (view w)) × Grown 0 w r ⌝ }
 {
@@ -152,7 +156,7 @@ pub fn put_both(w: Plan, t: Both) -> Plan
     put_system(put_core(w, s), y)
 }
 
-// The first refusal stays.
+// Refuses with the kind and address of an access; an earlier refusal stays.
 pub fn refuse_at(w: Plan, number: u32, kind: u32, address: u32) -> Plan
     ensures { λ r. ⌜ (view r ≡ work.refuseAt number kind address (view w)) × Grown 0 w r ⌝ }
 {
@@ -166,14 +170,14 @@ pub fn refuse_at(w: Plan, number: u32, kind: u32, address: u32) -> Plan
     w
 }
 
-// A refusal that is no access.
+// Refuses without an access.
 pub fn refuse(w: Plan, number: u32) -> Plan
     ensures { λ r. ⌜ (view r ≡ work.refuse number (view w)) × Grown 0 w r ⌝ }
 {
     refuse_at(w, number, 0, 0)
 }
 
-// An operation on registers alone that can Stop.
+// Writes the registers of an operation, or refuses with STOP where the operation Stops (DECISIONS 26).
 pub fn attempted(w: Plan, t: Attempt) -> Plan
     ensures { λ r. ⌜ (view r ≡ work.attempted t (view w)) × Grown 0 w r ⌝ }
 {

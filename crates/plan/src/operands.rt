@@ -1,5 +1,4 @@
-// What the operations that load and store do to the evaluation stack and to the two pointers of a plan, in registers alone. Each function is
-// the code of a definition of rules/specs/Data.antt.
+// Evaluation stack, Wptr and Iptr of a plan, as the operations that load and store change them (000 1.11; rules/specs/Data.antt).
 use crate::Plan;
 use crate::put;
 use rules::names::*;
@@ -9,7 +8,7 @@ ghost use mathlib.Core.Path.{_≡_};
 ghost use Rattle.plan.specs.View.{view, Grown};
 ghost use Rattle.rules.specs.Data as dataRules;
 
-// Room is made for a new Areg.
+// Pushes the stack: B to C, A to B. The caller writes A.
 pub fn pushed(w: Plan) -> Plan
     ensures { λ r. ⌜ (view r ≡ dataRules.pushed (view w)) × Grown 0 w r ⌝ }
 {
@@ -17,7 +16,7 @@ pub fn pushed(w: Plan) -> Plan
     put(put(w, CREG, w.regs[BREG]), BREG, a)
 }
 
-// Areg is given up.
+// Pops the stack: B to A, C to B.
 pub fn popped(w: Plan) -> Plan
     ensures { λ r. ⌜ (view r ≡ dataRules.popped (view w)) × Grown 0 w r ⌝ }
 {
@@ -25,7 +24,7 @@ pub fn popped(w: Plan) -> Plan
     put(put(w, AREG, w.regs[BREG]), BREG, c)
 }
 
-// The workspace n words on, at the same priority.
+// Moves Wptr by n words and ORs the priority in (DECISIONS 12).
 pub fn adjusted(w: Plan, n: u32) -> Plan
     ensures { λ r. ⌜ (view r ≡ dataRules.adjusted n (view w)) × Grown 0 w r ⌝ }
 {
@@ -33,7 +32,7 @@ pub fn adjusted(w: Plan, n: u32) -> Plan
     put(w, WDESC_REG, wptr | (w.regs[WDESC_REG] & PRIORITY_MASK))
 }
 
-// What a move of n bytes leaves in the registers that it was told by.
+// Leaves A, B and C as a move of n bytes does: A is 0, B and C are n bytes further (DECISIONS 14).
 pub fn move_done(w: Plan, n: u32) -> Plan
     ensures { λ r. ⌜ (view r ≡ dataRules.moveDone n (view w)) × Grown 0 w r ⌝ }
 {
@@ -42,7 +41,7 @@ pub fn move_done(w: Plan, n: u32) -> Plan
     put(put(put(w, CREG, source), BREG, destination), AREG, 0)
 }
 
-// Iptr goes n bytes on.
+// Moves Iptr by n bytes.
 pub fn jump_by(w: Plan, n: u32) -> Plan
     ensures { λ r. ⌜ (view r ≡ dataRules.jumpBy n (view w)) × Grown 0 w r ⌝ }
 {

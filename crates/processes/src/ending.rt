@@ -1,5 +1,4 @@
-// End process (000 1.11, Scheduling), on a plan: each function is the code of a definition of rules/specs/Scheduling.antt, its calls nested as
-// there.
+// End process (000 1.11). A points at two words: the Iptr with which the last process goes on, and the count of processes that have not ended.
 use memory::loads::word_at;
 use memory::store::load_word;
 use memory::store::r_index_word;
@@ -14,7 +13,7 @@ ghost use mathlib.Core.Path.{_≡_};
 ghost use Rattle.plan.specs.View.{view, Room, Grown};
 ghost use Rattle.rules.specs.Scheduling as scheduling;
 
-// The last of the processes goes on after them.
+// Goes on after the last process: loads Iptr, and makes A the workspace at the same priority.
 fn end_last(w: Plan, mem: &[u32]) -> Plan
     requires { ⌜ Room 0 w ⌝ }
     ensures { λ r. ⌜ (view r ≡ scheduling.endLast (now (mem .entry)) (view w)) × Grown 0 w r ⌝ }
@@ -27,7 +26,7 @@ fn end_last(w: Plan, mem: &[u32]) -> Plan
     )
 }
 
-// Another one is counted off, and stops.
+// Stores the count less 1, wrapping (DECISIONS 7), and sets GotoSNPBit.
 fn end_one(w: Plan, mem: &[u32], count: u32) -> Plan
     requires { ⌜ Room 1 w ⌝ }
     ensures { λ r. ⌜ (view r ≡ scheduling.endOne (now (mem .entry)) count (view w)) × Grown 1 w r ⌝ }
@@ -36,6 +35,7 @@ fn end_one(w: Plan, mem: &[u32], count: u32) -> Plan
     goto_snp(w_index_word(w, mem, w.regs[AREG], 1, left))
 }
 
+// Decides by the count whether the process is the last.
 fn end_counted(w: Plan, mem: &[u32], count: u32) -> Plan
     requires { ⌜ Room 1 w ⌝ }
     ensures { λ r. ⌜ (view r ≡ scheduling.endCounted (now (mem .entry)) count (view w)) × Grown 1 w r ⌝ }
@@ -46,7 +46,7 @@ fn end_counted(w: Plan, mem: &[u32], count: u32) -> Plan
     end_one(w, mem, count)
 }
 
-// End process.
+// Ends the process (000 1.11, end process).
 pub fn endp(w: Plan, mem: &[u32]) -> Plan
     requires { ⌜ Room 1 w ⌝ }
     ensures { λ r. ⌜ (view r ≡ scheduling.endp (now (mem .entry)) (view w)) × Grown 1 w r ⌝ }

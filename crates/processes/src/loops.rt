@@ -1,4 +1,5 @@
-// Loop end (000 1.11): sums that leave the range wrap before the test, and the time slice stands after both branches (01, One step).
+// Loop end (000 1.11). B points at two words, index and count; A is the length of the loop in bytes. Sums wrap before the test, and TimeSlice
+// stands after both branches (01, One step; DECISIONS 41).
 use crate::slices::time_slice;
 use memory::store::r_index_word;
 use memory::store::w_index_word;
@@ -13,14 +14,14 @@ ghost use Rattle.rules.specs.Words.{range, atByte};
 ghost use Rattle.plan.specs.View.{view, Room, Grown};
 ghost use Rattle.rules.specs.Scheduling as scheduling;
 
-// The address n bytes back; addresses wrap.
+// Subtracts n bytes from an address, wrapping.
 fn back_by(base: u32, n: u32) -> u32
     ensures { λ r. ⌜ r ≡ atByte base (range - n) ⌝ }
 {
     std::num::wrapping_sub_u32(base, n)
 }
 
-// The index is stored, and Iptr goes back.
+// Stores the index and moves Iptr back by A bytes.
 fn loop_back(w: Plan, mem: &[u32]) -> Plan
     requires { ⌜ Room 1 w ⌝ }
     ensures { λ r. ⌜ (view r ≡ scheduling.loopBack (now (mem .entry)) (view w)) × Grown 1 w r ⌝ }
@@ -33,6 +34,7 @@ fn loop_back(w: Plan, mem: &[u32]) -> Plan
     )
 }
 
+// Loads the index into C and adds 1.
 fn count_up(w: Plan, mem: &[u32]) -> Plan
     requires { ⌜ Room 0 w ⌝ }
     ensures { λ r. ⌜ (view r ≡ scheduling.countUp (now (mem .entry)) (view w)) × Grown 0 w r ⌝ }
@@ -40,6 +42,7 @@ fn count_up(w: Plan, mem: &[u32]) -> Plan
     add_to_c(r_index_word(w, mem, w.regs[BREG], 0, CREG), 1)
 }
 
+// Repeats the loop where the count in C is above 0.
 fn loop_on(w: Plan, mem: &[u32]) -> Plan
     requires { ⌜ Room 1 w ⌝ }
     ensures { λ r. ⌜ (view r ≡ scheduling.loopOn (now (mem .entry)) (view w)) × Grown 1 w r ⌝ }
@@ -50,6 +53,7 @@ fn loop_on(w: Plan, mem: &[u32]) -> Plan
     w
 }
 
+// Loads the count into C and subtracts 1.
 fn count_down(w: Plan, mem: &[u32]) -> Plan
     requires { ⌜ Room 0 w ⌝ }
     ensures { λ r. ⌜ (view r ≡ scheduling.countDown (now (mem .entry)) (view w)) × Grown 0 w r ⌝ }
@@ -64,7 +68,7 @@ fn store_count(w: Plan, mem: &[u32]) -> Plan
     w_index_word(w, mem, w.regs[BREG], 1, w.regs[CREG])
 }
 
-// Loop end.
+// Counts a loop down and repeats it, then TimeSlice (000 1.11, loop end).
 pub fn lend(w: Plan, mem: &[u32]) -> Plan
     requires { ⌜ Room 10 w ⌝ }
     ensures { λ r. ⌜ (view r ≡ scheduling.lend (now (mem .entry)) (view w)) × Grown 10 w r ⌝ }

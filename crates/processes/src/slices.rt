@@ -1,4 +1,4 @@
-// TimeSlice (000 1.9; 01, Links, clocks, slice), and the jump that ends with it.
+// TimeSlice (000 1.9; 01, Links, clocks, slice; DECISIONS 24), and jump, which ends with TimeSlice.
 use plan::Plan;
 use plan::goto_snp;
 use plan::put;
@@ -10,7 +10,7 @@ ghost use mathlib.Core.Path.{_≡_};
 ghost use Rattle.plan.specs.View.{view, Room, Grown};
 ghost use Rattle.rules.specs.Scheduling as scheduling;
 
-// The process has run for a slice: it goes to the back of its list.
+// Ends the slice (000 1.9): saves Iptr, calls Run on the process and sets GotoSNPBit.
 fn slice_out(w: Plan, mem: &[u32]) -> Plan
     requires { ⌜ Room 8 w ⌝ }
     ensures { λ r. ⌜ (view r ≡ scheduling.sliceOut (now (mem .entry)) (view w)) × Grown 8 w r ⌝ }
@@ -19,6 +19,7 @@ fn slice_out(w: Plan, mem: &[u32]) -> Plan
     goto_snp(run(save_iptr(w, mem), mem, wdesc))
 }
 
+// Ends a slice of 1,024 ticks or more.
 fn slice_if_long(w: Plan, mem: &[u32]) -> Plan
     requires { ⌜ Room 8 w ⌝ }
     ensures { λ r. ⌜ (view r ≡ scheduling.sliceIfLong (now (mem .entry)) (view w)) × Grown 8 w r ⌝ }
@@ -29,6 +30,7 @@ fn slice_if_long(w: Plan, mem: &[u32]) -> Plan
     w
 }
 
+// Ends a slice only while the clocks run.
 fn slice_if_running(w: Plan, mem: &[u32]) -> Plan
     requires { ⌜ Room 8 w ⌝ }
     ensures { λ r. ⌜ (view r ≡ scheduling.sliceIfRunning (now (mem .entry)) (view w)) × Grown 8 w r ⌝ }
@@ -39,6 +41,7 @@ fn slice_if_running(w: Plan, mem: &[u32]) -> Plan
     slice_if_long(w, mem)
 }
 
+// TimeSlice (000 1.9): ends the slice of a low process that has run for long enough.
 pub fn time_slice(w: Plan, mem: &[u32]) -> Plan
     requires { ⌜ Room 8 w ⌝ }
     ensures { λ r. ⌜ (view r ≡ scheduling.timeSlice (now (mem .entry)) (view w)) × Grown 8 w r ⌝ }
@@ -49,7 +52,7 @@ pub fn time_slice(w: Plan, mem: &[u32]) -> Plan
     slice_if_running(w, mem)
 }
 
-// Jump.
+// Jumps by Oreg, then TimeSlice (000 1.11, jump).
 pub fn j(w: Plan, mem: &[u32]) -> Plan
     requires { ⌜ Room 8 w ⌝ }
     ensures { λ r. ⌜ (view r ≡ scheduling.j (now (mem .entry)) (view w)) × Grown 8 w r ⌝ }

@@ -1,4 +1,4 @@
-// The instructions that start and run processes (000 1.11, Scheduling).
+// Start process and run process (000 1.11).
 use memory::store::w_index_word;
 use plan::Plan;
 use rules::names::*;
@@ -8,7 +8,7 @@ ghost use mathlib.Core.Path.{_≡_};
 ghost use Rattle.plan.specs.View.{view, Room, Grown};
 ghost use Rattle.rules.specs.Scheduling as scheduling;
 
-// Start process.
+// Starts a process with workspace A at Iptr + B, at the current priority (000 1.11, start process).
 pub fn startp(w: Plan, mem: &[u32]) -> Plan
     requires { ⌜ Room 8 w ⌝ }
     ensures { λ r. ⌜ (view r ≡ scheduling.startp (now (mem .entry)) (view w)) × Grown 8 w r ⌝ }
@@ -22,7 +22,7 @@ pub fn startp(w: Plan, mem: &[u32]) -> Plan
     )
 }
 
-// Run process.
+// Runs the process with descriptor A (000 1.11, run process).
 pub fn runp(w: Plan, mem: &[u32]) -> Plan
     requires { ⌜ Room 7 w ⌝ }
     ensures { λ r. ⌜ (view r ≡ scheduling.runp (now (mem .entry)) (view w)) × Grown 7 w r ⌝ }

@@ -1,8 +1,9 @@
-// HEAD scheduling
-pub mod flags; // What scheduling marks in registers alone, on a plan: the idle flag, the slice, the bits of Status that an interrupt keeps. Each function is
-pub mod queues; // The scheduling lists (000 1.10), on a plan: Enqueue, Dequeue, ActivateProcess. Each function is the code of a definition of
-pub mod save_area; // The save area (000 1.8), on a plan: what an interrupt puts there and the last high process brings back. Each function is the code of a
-pub mod start_next; // PROC StartNextProcess (000 1.10).
-pub mod running; // PROC Run (000 1.10): a process is started, or put on a list.
-pub mod stopping; // A process stops: its Iptr is kept in its workspace, and another one is looked for at the end of the step.
-pub mod selected; // PROC IsThisSelectedProcess (000 1.10), which all disable operations use, and B made of C.
+// Scheduling (000 1.8, 1.10, 1.11), on a plan: run queues, save area, Run, stops, StartNextProcess. Mirrors rules/specs/Scheduling.antt; only
+// IsThisSelectedProcess is in rules/specs/Timers.antt. Level 0 is high priority, level 1 low; a reference parameter of 000 is a register number.
+pub mod flags; // idle flag, slice, Status of an interrupt
+pub mod queues; // Enqueue, Dequeue, ActivateProcess
+pub mod save_area; // SaveRegisters, RestoreRegisters
+pub mod running; // Run
+pub mod stopping; // stop process, Wait, stop on error
+pub mod start_next; // StartNextProcess
+pub mod selected; // IsThisSelectedProcess

@@ -1,6 +1,4 @@
-// The scheduling lists (000 1.10), on a plan: Enqueue, Dequeue, ActivateProcess. Each function is the code of a definition of
-// rules/specs/Scheduling.antt, and says which work its result stands for and how many single stores it adds at most. A reference parameter of
-// 000 is a register number.
+// Run queues (000 1.10). fptr and bptr are the registers that hold the front and the back of a queue.
 use crate::flags::clear_idle;
 use crate::flags::start_slice;
 use memory::store::r_index_word;
@@ -14,7 +12,7 @@ ghost use Rattle.plan.specs.View.{view, Room, Grown};
 ghost use Rattle.rules.specs.Scheduling as scheduling;
 ghost use Rattle.rules.specs.Registers as registers;
 
-// The process becomes the front of an empty list, else it is linked behind its back.
+// Makes the process the front of an empty queue, else links the process behind the back.
 fn link_behind(w: Plan, mem: &[u32], process: u32, fptr: usize, bptr: usize) -> Plan
     requires { ⌜ (fptr < registers.registers) × (bptr < registers.registers) × Room 1 w ⌝ }
     ensures { λ r. ⌜ (view r ≡ scheduling.linkBehind (now (mem .entry)) process fptr bptr (view w)) × Grown 1 w r ⌝ }
@@ -25,7 +23,7 @@ fn link_behind(w: Plan, mem: &[u32], process: u32, fptr: usize, bptr: usize) -> 
     w_index_word(w, mem, w.regs[bptr], LINK_S, process)
 }
 
-// PROC Enqueue.
+// Enqueue (000 1.10): adds the process at the back of a queue.
 pub fn enqueue(w: Plan, mem: &[u32], process: u32, fptr: usize, bptr: usize) -> Plan
     requires { ⌜ (fptr < registers.registers) × (bptr < registers.registers) × Room 1 w ⌝ }
     ensures { λ r. ⌜ (view r ≡ scheduling.enqueue (now (mem .entry)) process fptr bptr (view w)) × Grown 1 w r ⌝ }
@@ -33,7 +31,7 @@ pub fn enqueue(w: Plan, mem: &[u32], process: u32, fptr: usize, bptr: usize) -> 
     put(link_behind(w, mem, process, fptr, bptr), bptr, process)
 }
 
-// The front becomes its follower, or nothing where it is the back too.
+// Advances the front to the next process, or empties the queue where front and back are one process.
 fn unlink_front(w: Plan, mem: &[u32], level: usize) -> Plan
     requires { ⌜ (level < 2) × Room 0 w ⌝ }
     ensures { λ r. ⌜ (view r ≡ scheduling.unlinkFront (now (mem .entry)) level (view w)) × Grown 0 w r ⌝ }
@@ -46,7 +44,7 @@ fn unlink_front(w: Plan, mem: &[u32], level: usize) -> Plan
     r_index_word(w, mem, w.regs[fptr], LINK_S, fptr)
 }
 
-// PROC Dequeue.
+// Dequeue (000 1.10): takes the front process of a queue into Wdesc. A process of the low queue starts its slice (DECISIONS 24).
 pub fn dequeue(w: Plan, mem: &[u32], level: usize) -> Plan
     requires { ⌜ (level < 2) × Room 0 w ⌝ }
     ensures { λ r. ⌜ (view r ≡ scheduling.dequeue (now (mem .entry)) level (view w)) × Grown 0 w r ⌝ }
@@ -56,7 +54,7 @@ pub fn dequeue(w: Plan, mem: &[u32], level: usize) -> Plan
     unlink_front(start_slice(put(w, WDESC_REG, wdesc), level), mem, level)
 }
 
-// PROC ActivateProcess.
+// ActivateProcess (000 1.10): clears idle (DECISIONS 19) and Oreg, and loads Iptr from the workspace.
 pub fn activate_process(w: Plan, mem: &[u32]) -> Plan
     requires { ⌜ Room 0 w ⌝ }
     ensures { λ r. ⌜ (view r ≡ scheduling.activateProcess (now (mem .entry)) (view w)) × Grown 0 w r ⌝ }

@@ -1,4 +1,4 @@
-// PROC Run (000 1.10): a process is started, or put on a list.
+// Run (000 1.10).
 use crate::flags::mask_status;
 use crate::queues::activate_process;
 use crate::queues::enqueue;
@@ -11,7 +11,7 @@ ghost use mathlib.Core.Path.{_≡_};
 ghost use Rattle.plan.specs.View.{view, Room, Grown};
 ghost use Rattle.rules.specs.Scheduling as scheduling;
 
-// A high process interrupts a low one.
+// Interrupts the low process: saves its registers and starts the high process.
 fn interrupt(w: Plan, mem: &[u32], descriptor: u32) -> Plan
     requires { ⌜ Room 7 w ⌝ }
     ensures { λ r. ⌜ (view r ≡ scheduling.interrupt (now (mem .entry)) descriptor (view w)) × Grown 7 w r ⌝ }
@@ -20,7 +20,7 @@ fn interrupt(w: Plan, mem: &[u32], descriptor: u32) -> Plan
     activate_process(mask_status(put(s, WDESC_REG, descriptor)), mem)
 }
 
-// A low process, while the machine is at low priority.
+// Starts the low process where no process runs, else enqueues the process.
 fn run_low(w: Plan, mem: &[u32], descriptor: u32) -> Plan
     requires { ⌜ Room 1 w ⌝ }
     ensures { λ r. ⌜ (view r ≡ scheduling.runLow (now (mem .entry)) descriptor (view w)) × Grown 1 w r ⌝ }
@@ -31,6 +31,7 @@ fn run_low(w: Plan, mem: &[u32], descriptor: u32) -> Plan
     enqueue(w, mem, descriptor & WPTR_MASK, FPTR_REG_LOW, BPTR_REG_LOW)
 }
 
+// Runs a process while the machine is at low priority: a high process interrupts.
 fn run_over_low(w: Plan, mem: &[u32], descriptor: u32) -> Plan
     requires { ⌜ Room 7 w ⌝ }
     ensures { λ r. ⌜ (view r ≡ scheduling.runOverLow (now (mem .entry)) descriptor (view w)) × Grown 7 w r ⌝ }
@@ -41,7 +42,7 @@ fn run_over_low(w: Plan, mem: &[u32], descriptor: u32) -> Plan
     run_low(w, mem, descriptor)
 }
 
-// At high priority a process is only put on the list of its priority.
+// Run (000 1.10): enqueues the process while the machine is at high priority, else starts or enqueues the process by its own priority.
 pub fn run(w: Plan, mem: &[u32], descriptor: u32) -> Plan
     requires { ⌜ Room 7 w ⌝ }
     ensures { λ r. ⌜ (view r ≡ scheduling.run (now (mem .entry)) descriptor (view w)) × Grown 7 w r ⌝ }

@@ -1,5 +1,4 @@
-// The save area (000 1.8), on a plan: what an interrupt puts there and the last high process brings back. Each function is the code of a
-// definition of rules/specs/Scheduling.antt, and says which work its result stands for and how many single stores it adds at most.
+// The save area (000 1.8): an interrupt saves the registers of the low process, StartNextProcess restores them.
 use crate::flags::resumed;
 use memory::store::r_index_word;
 use memory::store::w_index_word;
@@ -11,7 +10,7 @@ ghost use Rattle.plan.specs.View.{view, Room, Grown};
 ghost use Rattle.rules.specs.Scheduling as scheduling;
 ghost use Rattle.rules.specs.Registers as registers;
 
-// Register k goes to a place of the save area.
+// Stores register k in a word of the save area.
 fn save(w: Plan, mem: &[u32], place: u32, k: usize) -> Plan
     requires { ⌜ (k < registers.registers) × Room 1 w ⌝ }
     ensures { λ r. ⌜ (view r ≡ scheduling.save (now (mem .entry)) place k (view w)) × Grown 1 w r ⌝ }
@@ -19,7 +18,7 @@ fn save(w: Plan, mem: &[u32], place: u32, k: usize) -> Plan
     w_index_word(w, mem, SAVE_BASE, place, w.regs[k])
 }
 
-// Where there is a low process, its registers too.
+// Saves Iptr, A, B, C and Status, if there is a low process.
 fn save_rest(w: Plan, mem: &[u32]) -> Plan
     requires { ⌜ Room 5 w ⌝ }
     ensures { λ r. ⌜ (view r ≡ scheduling.saveRest (now (mem .entry)) (view w)) × Grown 5 w r ⌝ }
@@ -34,7 +33,7 @@ fn save_rest(w: Plan, mem: &[u32]) -> Plan
     save(t, mem, STATUS_INT_SAVE, STATUS_REG)
 }
 
-// 0 stands for E, which is no register here.
+// Stores 0 for E, which is no register here, where MoveBit is set (DECISIONS 21).
 fn save_ereg(w: Plan, mem: &[u32], status: u32) -> Plan
     requires { ⌜ Room 1 w ⌝ }
     ensures { λ r. ⌜ (view r ≡ scheduling.saveEreg (now (mem .entry)) status (view w)) × Grown 1 w r ⌝ }
@@ -45,7 +44,7 @@ fn save_ereg(w: Plan, mem: &[u32], status: u32) -> Plan
     w_index_word(w, mem, SAVE_BASE, EREG_INT_SAVE, 0)
 }
 
-// PROC SaveRegisters; the status tells whether E is saved.
+// SaveRegisters (000 1.8): saves the registers; MoveBit of status decides whether E is saved.
 pub fn save_registers(w: Plan, mem: &[u32], status: u32) -> Plan
     requires { ⌜ Room 7 w ⌝ }
     ensures { λ r. ⌜ (view r ≡ scheduling.saveRegisters (now (mem .entry)) status (view w)) × Grown 7 w r ⌝ }
@@ -57,7 +56,7 @@ pub fn save_registers(w: Plan, mem: &[u32], status: u32) -> Plan
     )
 }
 
-// Register k comes back from a place of the save area.
+// Loads register k from a word of the save area.
 fn restore(w: Plan, mem: &[u32], place: u32, k: usize) -> Plan
     requires { ⌜ (k < registers.registers) × Room 0 w ⌝ }
     ensures { λ r. ⌜ (view r ≡ scheduling.restore (now (mem .entry)) place k (view w)) × Grown 0 w r ⌝ }
@@ -65,7 +64,7 @@ fn restore(w: Plan, mem: &[u32], place: u32, k: usize) -> Plan
     r_index_word(w, mem, SAVE_BASE, place, k)
 }
 
-// Where a low process was saved, its registers too.
+// Restores Iptr, A, B, C and Status, if a low process was saved (DECISIONS 22).
 fn restore_rest(w: Plan, mem: &[u32]) -> Plan
     requires { ⌜ Room 0 w ⌝ }
     ensures { λ r. ⌜ (view r ≡ scheduling.restoreRest (now (mem .entry)) (view w)) × Grown 0 w r ⌝ }
@@ -80,7 +79,7 @@ fn restore_rest(w: Plan, mem: &[u32]) -> Plan
     restore(t, mem, STATUS_INT_SAVE, STATUS_REG)
 }
 
-// PROC RestoreRegisters.
+// RestoreRegisters (000 1.8): restores the registers, and clears idle where a process resumes. E is not read.
 pub fn restore_registers(w: Plan, mem: &[u32]) -> Plan
     requires { ⌜ Room 0 w ⌝ }
     ensures { λ r. ⌜ (view r ≡ scheduling.restoreRegisters (now (mem .entry)) (view w)) × Grown 0 w r ⌝ }

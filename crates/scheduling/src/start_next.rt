@@ -1,4 +1,4 @@
-// PROC StartNextProcess (000 1.10).
+// StartNextProcess (000 1.10).
 use crate::flags::set_idle;
 use crate::queues::activate_process;
 use crate::queues::dequeue;
@@ -12,7 +12,7 @@ ghost use Prim.Native.Nat.{_<_};
 ghost use Rattle.plan.specs.View.{view, Room, Grown};
 ghost use Rattle.rules.specs.Scheduling as scheduling;
 
-// The front of a level's list starts.
+// Dequeues and activates the front process of a queue.
 fn start_queued(w: Plan, mem: &[u32], level: usize) -> Plan
     requires { ⌜ (level < 2) × Room 0 w ⌝ }
     ensures { λ r. ⌜ (view r ≡ scheduling.startQueued (now (mem .entry)) level (view w)) × Grown 0 w r ⌝ }
@@ -20,7 +20,7 @@ fn start_queued(w: Plan, mem: &[u32], level: usize) -> Plan
     activate_process(dequeue(w, mem, level), mem)
 }
 
-// No process was interrupted: the low list, or nothing.
+// Starts the front of the low queue, else sets idle.
 fn start_low(w: Plan, mem: &[u32]) -> Plan
     requires { ⌜ Room 0 w ⌝ }
     ensures { λ r. ⌜ (view r ≡ scheduling.startLow (now (mem .entry)) (view w)) × Grown 0 w r ⌝ }
@@ -31,7 +31,7 @@ fn start_low(w: Plan, mem: &[u32]) -> Plan
     start_queued(w, mem, 1)
 }
 
-// The registers of an interrupted process were restored, if there was one.
+// Resumes the process that RestoreRegisters brought back, or starts a low process where none was interrupted.
 fn resume_or_start(w: Plan, mem: &[u32]) -> Plan
     requires { ⌜ Room 0 w ⌝ }
     ensures { λ r. ⌜ (view r ≡ scheduling.resumeOrStart (now (mem .entry)) (view w)) × Grown 0 w r ⌝ }
@@ -42,6 +42,7 @@ fn resume_or_start(w: Plan, mem: &[u32]) -> Plan
     w
 }
 
+// Starts the front of the high queue, else resumes the interrupted process or starts a low one.
 fn next_high(w: Plan, mem: &[u32]) -> Plan
     requires { ⌜ Room 0 w ⌝ }
     ensures { λ r. ⌜ (view r ≡ scheduling.nextHigh (now (mem .entry)) (view w)) × Grown 0 w r ⌝ }
@@ -52,6 +53,7 @@ fn next_high(w: Plan, mem: &[u32]) -> Plan
     start_queued(w, mem, 0)
 }
 
+// Starts the front of the low queue, else leaves no process in Wdesc and sets idle.
 fn next_low(w: Plan, mem: &[u32]) -> Plan
     requires { ⌜ Room 0 w ⌝ }
     ensures { λ r. ⌜ (view r ≡ scheduling.nextLow (now (mem .entry)) (view w)) × Grown 0 w r ⌝ }
@@ -62,6 +64,7 @@ fn next_low(w: Plan, mem: &[u32]) -> Plan
     start_queued(w, mem, 1)
 }
 
+// Starts the next process by the priority of the machine.
 fn next_process(w: Plan, mem: &[u32]) -> Plan
     requires { ⌜ Room 0 w ⌝ }
     ensures { λ r. ⌜ (view r ≡ scheduling.nextProcess (now (mem .entry)) (view w)) × Grown 0 w r ⌝ }
@@ -72,6 +75,7 @@ fn next_process(w: Plan, mem: &[u32]) -> Plan
     next_low(w, mem)
 }
 
+// StartNextProcess (000 1.10): clears GotoSNPBit and starts the next process.
 pub fn start_next_process(w: Plan, mem: &[u32]) -> Plan
     requires { ⌜ Room 0 w ⌝ }
     ensures { λ r. ⌜ (view r ≡ scheduling.startNextProcess (now (mem .entry)) (view w)) × Grown 0 w r ⌝ }
@@ -79,7 +83,7 @@ pub fn start_next_process(w: Plan, mem: &[u32]) -> Plan
     next_process(lower(w, STATUS_REG, GOTO_SNP_BIT), mem)
 }
 
-// A set GotoSNP bit is acted on once in a step.
+// Acts on a set GotoSNPBit, once in a step (01, One step).
 pub fn act_on_snp(w: Plan, mem: &[u32]) -> Plan
     requires { ⌜ Room 0 w ⌝ }
     ensures { λ r. ⌜ (view r ≡ scheduling.actOnSNP (now (mem .entry)) (view w)) × Grown 0 w r ⌝ }

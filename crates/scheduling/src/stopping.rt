@@ -1,4 +1,4 @@
-// A process stops: its Iptr is kept in its workspace, and another one is looked for at the end of the step.
+// Stops of the current process (000 1.10, 1.11): Iptr is saved in its workspace, and the step ends with StartNextProcess.
 use memory::store::w_index_word;
 use plan::Plan;
 use plan::goto_snp;
@@ -7,6 +7,7 @@ ghost use mathlib.Core.Path.{_≡_};
 ghost use Rattle.plan.specs.View.{view, Room, Grown};
 ghost use Rattle.rules.specs.Scheduling as scheduling;
 
+// Saves Iptr in the workspace, at Iptr.s.
 pub fn save_iptr(w: Plan, mem: &[u32]) -> Plan
     requires { ⌜ Room 1 w ⌝ }
     ensures { λ r. ⌜ (view r ≡ scheduling.saveIptr (now (mem .entry)) (view w)) × Grown 1 w r ⌝ }
@@ -20,7 +21,7 @@ pub fn save_iptr(w: Plan, mem: &[u32]) -> Plan
     )
 }
 
-// Stop process, and the end of Wait.
+// Stops the process (000 1.11, stop process; 1.10, the end of Wait).
 pub fn stopp(w: Plan, mem: &[u32]) -> Plan
     requires { ⌜ Room 1 w ⌝ }
     ensures { λ r. ⌜ (view r ≡ scheduling.stopp (now (mem .entry)) (view w)) × Grown 1 w r ⌝ }
@@ -28,7 +29,7 @@ pub fn stopp(w: Plan, mem: &[u32]) -> Plan
     goto_snp(save_iptr(w, mem))
 }
 
-// PROC Wait.
+// Wait (000 1.10): sets State.s to Waiting.p and stops the process.
 pub fn wait(w: Plan, mem: &[u32]) -> Plan
     requires { ⌜ Room 2 w ⌝ }
     ensures { λ r. ⌜ (view r ≡ scheduling.wait (now (mem .entry)) (view w)) × Grown 2 w r ⌝ }
@@ -39,7 +40,7 @@ pub fn wait(w: Plan, mem: &[u32]) -> Plan
     )
 }
 
-// Stop on error.
+// Stops the process where the error flag is set (000 1.11, stop on error).
 pub fn stoperr(w: Plan, mem: &[u32]) -> Plan
     requires { ⌜ Room 1 w ⌝ }
     ensures { λ r. ⌜ (view r ≡ scheduling.stoperr (now (mem .entry)) (view w)) × Grown 1 w r ⌝ }

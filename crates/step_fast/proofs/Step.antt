@@ -25,6 +25,9 @@ use Rattle.rules.proofs.Tests.{yes-lt, no-lt, yes-le, no-le, yes-eq, no-eq, no,
 use Rattle.rules.specs.declared.Core.{Core}
 use Rattle.step_pending.specs.NothingPending as pending
 use Rattle.step_fast.specs.declared.FastStep.{FastStep}
+use Rattle.core_table.specs.Selected.{registerOperation}
+use Rattle.core_table.specs.declared.Selected.{Selected}
+use Rattle.core_table.proofs.Tables.{either, operate-is}
 use Rattle.step_fast.specs.Fast as fast
 
 -- ---- the registers as the seven and the rest
@@ -150,20 +153,18 @@ module _ (m rest : List ℕ) where
       (λ h. rw (no-eq p, no-eq p, no-eq k, no-eq k, no-le h, no-le h) (finish m (s .status) _ refl clear))
       (λ h. never (rw (no-eq p, no-eq k, yes-le h) at d))))
 
-  -- ---- operations: each row of the table is the row of rules
+  -- ---- operations
 
-  abbrev Row : ℕ → (Core → FastStep) → Type 0
-  Row k f = (s : Core) → f s .done ≡ true → bitAnd (s .status) gotoSNPBit ≡ 0
-      → steps.haltOnError (s .status) (scheduling.actOnSNP m (put oreg 0 (tables.operate k m (begin (listed s rest))))) ≡ left rest (f s)
-
-  rows : All Row fast.operations
-  unfolding fast.operations tables.operate tables.operations
-  rows =
-      (registers-left stack.rev, (registers-left stack.bsub, (registers-left stack.diff, (registers-left stack.add, (registers-left stack.gcall, (registers-left stack.prod, (registers-left stack.gt, (registers-left stack.wsub, (registers-left stack.sub, (registers-left stack.csub0, (registers-left stack.ldpi, (registers-left stack.ldpri, (registers-left stack.rem, (registers-left stack.div, (registers-left stack.bitnot, (registers-left stack.xor, (registers-left stack.bcnt, (registers-left stack.gajw, (registers-left stack.wcnt, (registers-left stack.mint, (registers-left stack.and, (registers-left stack.or, (registers-left stack.ccnt1, (registers-left stack.sum, (registers-left stack.mul, tt)))))))))))))))))))))))))
+  -- an operation on registers alone
+  selected-left : (t : Selected) (v : Work) (s : Core) → fast.ofTable (s .status) t .done ≡ true → bitAnd (s .status) gotoSNPBit ≡ 0
+      → steps.haltOnError (s .status) (scheduling.actOnSNP m (put oreg 0 (either t (begin (listed s rest)) v))) ≡ left rest (fast.ofTable (s .status) t)
+  unfolding either
+  selected-left t v s d clear =
+      by-bool (t .found) (λ h. rw h (registers-left (λ _. t .core) s (rw h at d) clear)) (λ h. never (rw h at d))
 
   opr-good : (s : Core) → Good 0xF s (fast.opr s)
-  unfolding fast.operate steps.execute tables.function tables.functions
-  opr-good s d clear = looked Row fast.operations rows (s .oreg) (λ s d clear. never d) s d clear
+  unfolding fast.operate steps.execute tables.function tables.functions coreOf
+  opr-good s d clear = rw (operate-is (s .oreg) m (begin (listed s rest))) (selected-left (registerOperation (s .oreg) s) _ s d clear)
 
   -- ---- decoding
 

@@ -1,4 +1,4 @@
--- One turn of the search for the lowest channel with a request, and its end.
+-- One turn of the loop of service::request_from, and its end.
 use mathlib.Core.Path.{_≡_}
 use Prim.Native.Nat.{ℕ, suc, _+_}
 use native.Mathlib.Numerals.{add-one}

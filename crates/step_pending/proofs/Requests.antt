@@ -1,4 +1,4 @@
--- One channel more without a request.
+-- One turn of the loop of pending::no_request.
 use mathlib.Core.Path.{_≡_}
 use mathlib.Core.Bool.{false}
 use mathlib.Core.List.{List}

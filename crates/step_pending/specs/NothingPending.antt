@@ -1,4 +1,4 @@
--- What keeps a step from being a common one: something that comes before the instruction, or a slice that ends at a jump.
+-- The tests for a common step: nothing comes before the instruction, and no slice ends at a jump (DECISIONS 54).
 use Prim.Native.Nat.{ℕ, zero, suc, _+_}
 use mathlib.Core.Bool.{Bool, true, false, not}
 use mathlib.Core.List.{List}
@@ -11,9 +11,9 @@ use Rattle.rules.specs.Registers.{oreg, statusReg, clockReg, tnextReg, sliceReg
 use Rattle.rules.specs.Scheduling.{sliceLength}
 use Rattle.rules.specs.declared.Core.{Core}
 
--- ---- what may come before an instruction
+-- ---- before an instruction
 
--- of the n channels from c on none has a request (01, One step (a))
+-- none of the n channels from c on has a request (01, One step (a))
 unfoldable pub noRequest : ℕ → ℕ → List ℕ → Bool
 noRequest c zero r = true
 noRequest c (suc n) r = ifSet (runRequest + readyRequest) (getD r (channelReg c) 0) false (noRequest (suc c) n r)
@@ -27,7 +27,7 @@ due queue r =
 unfoldable pub nothingToServe : List ℕ → Bool
 nothingToServe r = pick (noRequest 0 linkChans r) (pick (due 0 r) false (not (due 1 r))) false
 
--- not halted, not idle, GotoSNP clear; and where Oreg is 0, unasked: (c) applies (01, One step; DECISIONS 54)
+-- not halted, not idle, GotoSNP clear, and where Oreg is 0 nothing to serve: (c) applies (01, One step; DECISIONS 54)
 unfoldable pub nothingPending : List ℕ → Bool
 nothingPending r =
     ifSet haltedFlag (getD r flagsReg 0) false

@@ -1,11 +1,11 @@
-// When a step halts the machine (01, One step), on a plan.
+// When a step halts the machine (01, One step; DECISIONS 18).
 use plan::Plan;
 use rules::names::*;
 ghost use mathlib.Core.Path.{_≡_};
 ghost use Rattle.rules.specs.Step as step;
 ghost use Rattle.plan.specs.View.{view, Grown};
 
-// The machine halts where HaltOnError is set.
+// Halts the machine where HaltOnError is set.
 fn halt_if_asked(w: Plan) -> Plan
     ensures { λ r. ⌜ (view r ≡ step.haltIfAsked (view w)) × Grown 0 w r ⌝ }
 {
@@ -15,7 +15,7 @@ fn halt_if_asked(w: Plan) -> Plan
     plan::raise(w, FLAGS_REG, HALTED_FLAG)
 }
 
-// Only an error flag that the step has set halts; before is Status before the step.
+// Halts the machine where the step has set the error flag and HaltOnError is set. before is Status before the step.
 pub fn halt_on_error(w: Plan, before: u32) -> Plan
     ensures { λ r. ⌜ (view r ≡ step.haltOnError before (view w)) × Grown 0 w r ⌝ }
 {

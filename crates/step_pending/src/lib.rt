@@ -1,4 +1,5 @@
-// HEAD step_pending
-pub mod pending; // Whether anything comes before an instruction, and whether a slice ends at a jump.
-pub mod service; // What a step serves before it fetches an instruction, and whether it does so now (01, One step (a) and (b)): the lowest channel with a
-pub mod halting; // When a step halts the machine (01, One step), on a plan.
+// What comes before an instruction (01, One step (a) and (b)): channel requests and ready timers; and when a step halts the machine. Mirrors
+// rules/specs/Step.antt; the tests for a common step are in specs/NothingPending.antt.
+pub mod service; // the channel or timer that a step serves
+pub mod pending; // nothing to serve before an instruction; end of a slice
+pub mod halting; // halt on error

@@ -1,4 +1,4 @@
-// Whether anything comes before an instruction, and whether a slice ends at a jump.
+// The tests for a common step, which step_fast makes without a plan (DECISIONS 54).
 use rules::Core;
 use rules::REGISTERS;
 use rules::names::*;
@@ -7,10 +7,10 @@ ghost use Prim.Native.Nat.{_<_};
 ghost use Rattle.rules.specs.Registers.{tEnabled};
 ghost use Rattle.step_pending.specs.NothingPending as pending;
 
-// A run request or a ready request.
+// Run request and ready request.
 const REQUESTS: u32 = 24;
 
-// No channel has a request.
+// Tests that no channel has a request.
 fn no_request(regs: [u32; REGISTERS]) -> bool
     ensures { λ r. ⌜ r ≡ pending.noRequest 0 9 regs ⌝ }
 {
@@ -25,7 +25,7 @@ fn no_request(regs: [u32; REGISTERS]) -> bool
     true
 }
 
-// A timer is enabled and its time has come.
+// Tests whether a timer is enabled and its time has come. mask is the timer's bit of the flags.
 fn due(regs: [u32; REGISTERS], queue: usize, mask: u32) -> bool
     requires { ⌜ (queue < 2) × (mask ≡ tEnabled queue) ⌝ }
     ensures { λ r. ⌜ r ≡ pending.due queue regs ⌝ }
@@ -36,7 +36,7 @@ fn due(regs: [u32; REGISTERS], queue: usize, mask: u32) -> bool
     !words::later(regs[TNEXT_REG + queue], regs[CLOCK_REG + queue])
 }
 
-// Between instructions: no request, no timer.
+// Tests that no channel has a request and neither timer is due: (a) and (b) do not apply (01, One step).
 fn nothing_to_serve(regs: [u32; REGISTERS]) -> bool
     ensures { λ r. ⌜ r ≡ pending.nothingToServe regs ⌝ }
 {
@@ -49,7 +49,7 @@ fn nothing_to_serve(regs: [u32; REGISTERS]) -> bool
     false
 }
 
-// Not halted, not idle, no process to be started; and between instructions unasked.
+// Tests that (c) applies (01, One step): not halted, not idle, GotoSNPBit clear; and where Oreg is 0, nothing to serve.
 pub fn nothing_pending(regs: [u32; REGISTERS]) -> bool
     ensures { λ r. ⌜ r ≡ pending.nothingPending regs ⌝ }
 {
@@ -68,7 +68,7 @@ pub fn nothing_pending(regs: [u32; REGISTERS]) -> bool
     false
 }
 
-// A slice ends at a jump: the process is low, the clocks run, and the slice is long.
+// Tests whether a slice ends at a jump: the process is low, the clocks run, and the slice is 1,024 or more.
 pub fn slice_ends(regs: [u32; REGISTERS], s: Core) -> bool
     ensures { λ r. ⌜ r ≡ pending.sliceEnds s regs ⌝ }
 {

@@ -1,5 +1,5 @@
-// What a step serves before it fetches an instruction, and whether it does so now (01, One step (a) and (b)): the lowest channel with a
-// request, then the first timer that is ready. The order of service stands here; the crates channels and timers serve.
+// What a step serves before an instruction (01, One step (a) and (b)): the lowest channel with a request, else the first ready timer. The crates
+// channels and timers serve the request.
 use plan::Plan;
 use rules::names::*;
 use timers::timer_queue::timer_ready;
@@ -12,14 +12,14 @@ ghost use Rattle.rules.specs.Channels as channels;
 ghost use Rattle.plan.specs.View.{view};
 ghost use Rattle.step_pending.specs.Timer.{firstReady};
 
-// Between two instructions: no prefix is under way.
+// Tests that Oreg is 0: only then does a step serve requests (01, One step).
 pub fn between(w: Plan) -> bool
     ensures { λ r. ⌜ r ≡ eqb (reg registers.oreg (view w)) 0 ⌝ }
 {
     w.regs[OREG] == 0
 }
 
-// Of the n channels from c on, the lowest with a run or a ready request; 9 where there is none.
+// Finds the lowest channel with a run or ready request among the n channels from c on; 9 where there is none.
 fn request_from(w: Plan, c: usize, n: usize) -> usize
     requires { ⌜ c + n ≤ registers.linkChans ⌝ }
     ensures { λ r. ⌜ r ≡ channels.requestFrom c n (view w) ⌝ }
@@ -38,13 +38,14 @@ fn request_from(w: Plan, c: usize, n: usize) -> usize
     LINK_CHANS as usize
 }
 
+// Finds the lowest channel with a request; 9 where there is none.
 pub fn requested(w: Plan) -> usize
     ensures { λ r. ⌜ r ≡ channels.requested (view w) ⌝ }
 {
     request_from(w, 0, LINK_CHANS as usize)
 }
 
-// Timer 0 or timer 1, whichever is ready first; 2 where none is.
+// Finds the ready timer to serve, 0 before 1; 2 where neither is ready.
 pub fn ready_timer(w: Plan) -> usize
     ensures { λ r. ⌜ r ≡ firstReady (view w) ⌝ }
 {

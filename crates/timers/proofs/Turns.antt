@@ -1,4 +1,4 @@
--- One turn of the walks along a timer queue, and their end without a turn left, over what the code has read.
+-- One turn of the walks along a timer queue, and their end where the budget runs out, by the words that the code has read.
 use mathlib.Core.Path.{_≡_}
 use mathlib.Core.Bool.{true, false}
 use mathlib.Core.List.{List}

@@ -1,5 +1,5 @@
-// Deletion from a timer queue (000 1.10) in one step: B and C are left with the front of the queue and the process after this one. Its walk has
-// a budget of turns that runs out exactly in a ring.
+// Deletion of the current process from a timer queue (000 1.10), in one step. B is left with the front of the queue, C with the process that
+// followed (DECISIONS 15). The walk has a budget of turns that runs out exactly in a ring (DECISIONS 46).
 use crate::timer_queue::set_next;
 use crate::timer_queue::t_enabled;
 use crate::timer_queue::tptr_loc;
@@ -17,7 +17,7 @@ ghost use mathlib.Core.Path.{_≡_};
 ghost use Rattle.rules.specs.Timers as timers;
 ghost use Rattle.plan.specs.View.{view, Room, Grown};
 
-// PROC DeleteFinalStep.
+// Sets the next time to that of the front process, if the queue is not empty (000 1.10, DeleteFinalStep).
 fn delete_next(w: Plan, mem: &[u32]) -> Plan
     requires { ⌜ Room 0 w ⌝ }
     ensures { λ r. ⌜ (view r ≡ timers.deleteNext (now (mem .entry)) (view w)) × Grown 0 w r ⌝ }
@@ -29,6 +29,7 @@ fn delete_next(w: Plan, mem: &[u32]) -> Plan
     set_next(w, mem, queue, w.regs[BREG])
 }
 
+// Unlinks the process: the word at previous gets the process that follows, TLink.s gets TimeNotSet.p.
 fn delete_link(w: Plan, mem: &[u32], previous: u32) -> Plan
     requires { ⌜ Room 2 w ⌝ }
     ensures { λ r. ⌜ (view r ≡ timers.deleteLink (now (mem .entry)) previous (view w)) × Grown 2 w r ⌝ }
@@ -38,6 +39,8 @@ fn delete_link(w: Plan, mem: &[u32], previous: u32) -> Plan
     w_index_word(linked, mem, wptr, TLINK_S, TIME_NOT_SET)
 }
 
+// DeleteFinalStep (000 1.10): unlinks the process, and sets the next time of the queue. previous is the address of the word that points to the
+// process.
 fn delete_final_step(w: Plan, mem: &[u32], previous: u32) -> Plan
     requires { ⌜ Room 2 w ⌝ }
     ensures { λ r. ⌜ (view r ≡ timers.deleteFinalStep (now (mem .entry)) previous (view w)) × Grown 2 w r ⌝ }
@@ -48,7 +51,7 @@ fn delete_final_step(w: Plan, mem: &[u32], previous: u32) -> Plan
     delete_next(r_index_word(linked, mem, TIMER_BASE, priority, BREG), mem)
 }
 
-// PROC DeleteTest and DeleteMiddleStep, until the process is found.
+// DeleteTest and DeleteMiddleStep (000 1.10): walks the queue until the process is found; refuses with STOP where the budget runs out.
 fn delete_walk(w: Plan, mem: &[u32], turns: usize, previous: u32) -> Plan
     requires { ⌜ Room 2 w ⌝ }
     ensures { λ r. ⌜ (view r ≡ timers.deleteWalk (now (mem .entry)) turns previous (view w)) × Grown 2 w r ⌝ }
@@ -69,7 +72,7 @@ fn delete_walk(w: Plan, mem: &[u32], turns: usize, previous: u32) -> Plan
     refuse(at, STOP)
 }
 
-// PROC DeleteFirstStep: the timer is off until the deletion is done.
+// DeleteFirstStep (000 1.10): disables the timer and walks its queue. The budget is that of an insertion.
 pub fn delete_first_step(w: Plan, mem: &[u32]) -> Plan
     requires { ⌜ Room 2 w ⌝ }
     ensures { λ r. ⌜ (view r ≡ timers.deleteFirstStep (now (mem .entry)) (view w)) × Grown 2 w r ⌝ }

@@ -1,4 +1,4 @@
-// Timer guards (000 1.11): enable timer and disable timer.
+// Timer guards: enable timer and disable timer (000 1.11).
 use crate::deletion::delete_first_step;
 use memory::loads::word_at;
 use memory::store::load_word;
@@ -15,7 +15,7 @@ ghost use mathlib.Core.Path.{_≡_};
 ghost use Rattle.rules.specs.Timers as timers;
 ghost use Rattle.plan.specs.View.{view, Room, Grown};
 
-// The first timer guard of the alternative.
+// Sets the time of the alternative to that of its first timer guard.
 fn enbt_first(w: Plan, mem: &[u32]) -> Plan
     requires { ⌜ Room 2 w ⌝ }
     ensures { λ r. ⌜ (view r ≡ timers.enbtFirst (now (mem .entry)) (view w)) × Grown 2 w r ⌝ }
@@ -25,7 +25,7 @@ fn enbt_first(w: Plan, mem: &[u32]) -> Plan
     w_index_word(set, mem, wptr, TIME_S, w.regs[BREG])
 }
 
-// The earliest time is kept.
+// Stores the guard's time B where the time so far is later.
 fn enbt_earlier(w: Plan, mem: &[u32], time: u32) -> Plan
     requires { ⌜ Room 1 w ⌝ }
     ensures { λ r. ⌜ (view r ≡ timers.enbtEarlier (now (mem .entry)) time (view w)) × Grown 1 w r ⌝ }
@@ -37,6 +37,7 @@ fn enbt_earlier(w: Plan, mem: &[u32], time: u32) -> Plan
     w
 }
 
+// Decides by TLink.s whether the guard is the first timer guard; refuses with STOP where TLink.s is neither mark (DECISIONS 26).
 fn enbt_link(w: Plan, mem: &[u32], link: u32) -> Plan
     requires { ⌜ Room 2 w ⌝ }
     ensures { λ r. ⌜ (view r ≡ timers.enbtLink (now (mem .entry)) link (view w)) × Grown 2 w r ⌝ }
@@ -52,6 +53,7 @@ fn enbt_link(w: Plan, mem: &[u32], link: u32) -> Plan
     refuse(w, STOP)
 }
 
+// Enables the guard where its condition A is not false.
 fn enbt_guard(w: Plan, mem: &[u32]) -> Plan
     requires { ⌜ Room 2 w ⌝ }
     ensures { λ r. ⌜ (view r ≡ timers.enbtGuard (now (mem .entry)) (view w)) × Grown 2 w r ⌝ }
@@ -64,6 +66,7 @@ fn enbt_guard(w: Plan, mem: &[u32]) -> Plan
     enbt_link(load_word(w, mem, a), mem, link)
 }
 
+// Enables a timer guard with condition A and time B (000 1.11, enable timer).
 pub fn enbt(w: Plan, mem: &[u32]) -> Plan
     requires { ⌜ Room 2 w ⌝ }
     ensures { λ r. ⌜ (view r ≡ timers.enbt (now (mem .entry)) (view w)) × Grown 2 w r ⌝ }
@@ -71,7 +74,7 @@ pub fn enbt(w: Plan, mem: &[u32]) -> Plan
     drop_b(enbt_guard(w, mem))
 }
 
-// Ready where the time of the wait's end is after that of this guard.
+// Selects the guard where the time at which the process became ready is after the guard's time C, else answers false.
 fn dist_ready(w: Plan, mem: &[u32], time: u32) -> Plan
     requires { ⌜ Room 1 w ⌝ }
     ensures { λ r. ⌜ (view r ≡ timers.distReady (now (mem .entry)) time (view w)) × Grown 1 w r ⌝ }
@@ -82,6 +85,7 @@ fn dist_ready(w: Plan, mem: &[u32], time: u32) -> Plan
     put(w, AREG, MACHINE_FALSE)
 }
 
+// Decides whether the guard is ready where TLink.s is TimeSet.p; else the process is still in the queue, and is deleted.
 fn dist_set(w: Plan, mem: &[u32], link: u32) -> Plan
     requires { ⌜ Room 2 w ⌝ }
     ensures { λ r. ⌜ (view r ≡ timers.distSet (now (mem .entry)) link (view w)) × Grown 2 w r ⌝ }
@@ -94,7 +98,7 @@ fn dist_set(w: Plan, mem: &[u32], link: u32) -> Plan
     put(delete_first_step(w, mem), AREG, MACHINE_FALSE)
 }
 
-// The process is still in the queue where its link is neither mark: it is taken out.
+// Answers false where TLink.s is TimeNotSet.p.
 fn dist_link(w: Plan, mem: &[u32], link: u32) -> Plan
     requires { ⌜ Room 2 w ⌝ }
     ensures { λ r. ⌜ (view r ≡ timers.distLink (now (mem .entry)) link (view w)) × Grown 2 w r ⌝ }
@@ -105,6 +109,7 @@ fn dist_link(w: Plan, mem: &[u32], link: u32) -> Plan
     dist_set(w, mem, link)
 }
 
+// Disables a timer guard with offset A, condition B and time C (000 1.11, disable timer).
 pub fn dist(w: Plan, mem: &[u32]) -> Plan
     requires { ⌜ Room 2 w ⌝ }
     ensures { λ r. ⌜ (view r ≡ timers.dist (now (mem .entry)) (view w)) × Grown 2 w r ⌝ }

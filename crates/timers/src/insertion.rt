@@ -1,5 +1,5 @@
-// Insertion into a timer queue (000 1.10) in one step: the time is in A; B and C are left with the front of the queue and the next process. Its
-// walk has a budget of turns that runs out exactly in a ring.
+// Insertion of the current process into a timer queue (000 1.10), in one step. A is the time; B is left with the front of the queue, C with the
+// process that follows (DECISIONS 15). The walk has a budget of turns that runs out exactly in a ring (DECISIONS 46).
 use crate::timer_queue::set_next;
 use crate::timer_queue::tptr_loc;
 use memory::loads::word_at;
@@ -19,7 +19,7 @@ ghost use mathlib.Core.Path.{_≡_};
 ghost use Rattle.rules.specs.Timers as timers;
 ghost use Rattle.plan.specs.View.{view, Room, Grown};
 
-// PROC InsertFinalStep.
+// Sets the next time to that of the front process B, and sets GotoSNPBit (000 1.10, InsertFinalStep).
 fn insert_next(w: Plan, mem: &[u32]) -> Plan
     requires { ⌜ Room 0 w ⌝ }
     ensures { λ r. ⌜ (view r ≡ timers.insertNext (now (mem .entry)) (view w)) × Grown 0 w r ⌝ }
@@ -28,6 +28,7 @@ fn insert_next(w: Plan, mem: &[u32]) -> Plan
     goto_snp(set_next(w, mem, queue, w.regs[BREG]))
 }
 
+// Links the process: the word at previous gets its Wptr, TLink.s gets the process that follows. Saves Iptr.
 fn insert_link(w: Plan, mem: &[u32], previous: u32, subsequent: u32) -> Plan
     requires { ⌜ Room 3 w ⌝ }
     ensures { λ r. ⌜ (view r ≡ timers.insertLink (now (mem .entry)) previous subsequent (view w)) × Grown 3 w r ⌝ }
@@ -37,6 +38,8 @@ fn insert_link(w: Plan, mem: &[u32], previous: u32, subsequent: u32) -> Plan
     save_iptr(w_index_word(linked, mem, wptr, TLINK_S, subsequent), mem)
 }
 
+// InsertFinalStep (000 1.10): links the process before subsequent, and sets the next time of the queue. previous is the address of the word that
+// points to subsequent.
 fn insert_final_step(w: Plan, mem: &[u32], previous: u32, subsequent: u32) -> Plan
     requires { ⌜ Room 3 w ⌝ }
     ensures { λ r. ⌜ (view r ≡ timers.insertFinalStep (now (mem .entry)) previous subsequent (view w)) × Grown 3 w r ⌝ }
@@ -46,7 +49,8 @@ fn insert_final_step(w: Plan, mem: &[u32], previous: u32, subsequent: u32) -> Pl
     insert_next(r_index_word(linked, mem, TIMER_BASE, priority, BREG), mem)
 }
 
-// PROC InsertTest and InsertMiddleStep until the place is found: before the first process whose time is not passed by this one.
+// InsertTest and InsertMiddleStep (000 1.10): walks on while time is after that of the next process, then inserts; refuses with STOP where the
+// budget runs out.
 fn insert_walk(w: Plan, mem: &[u32], turns: usize, time: u32, previous: u32) -> Plan
     requires { ⌜ Room 3 w ⌝ }
     ensures { λ r. ⌜ (view r ≡ timers.insertWalk (now (mem .entry)) turns time previous (view w)) × Grown 3 w r ⌝ }
@@ -73,7 +77,8 @@ fn insert_walk(w: Plan, mem: &[u32], turns: usize, time: u32, previous: u32) -> 
     refuse(at, STOP)
 }
 
-// PROC InsertFirstStep. A queue without a ring is walked in fewer turns than the memory's words and two (DECISIONS 27).
+// InsertFirstStep (000 1.10): marks the process as waiting, stores its time and walks the queue. The budget is two turns more than memory has
+// words; a queue without a ring needs fewer (DECISIONS 27).
 pub fn insert_first_step(w: Plan, mem: &[u32]) -> Plan
     requires { ⌜ Room 5 w ⌝ }
     ensures { λ r. ⌜ (view r ≡ timers.insertFirstStep (now (mem .entry)) (view w)) × Grown 5 w r ⌝ }

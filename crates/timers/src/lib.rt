@@ -1,7 +1,8 @@
-// HEAD timers
-pub mod timer_queue; // When a timer is ready, and what its queue keeps in the registers (000 1.8). Level 0 is the high timer, level 1 the low one.
-pub mod insertion; // Insertion into a timer queue (000 1.10) in one step: the time is in A; B and C are left with the front of the queue and the next process. Its
-pub mod deletion; // Deletion from a timer queue (000 1.10) in one step: B and C are left with the front of the queue and the process after this one. Its walk has
-pub mod requests; // PROC HandleTimerRequest (000 1.8): the front process of a queue is taken off, and runs if it was waiting.
-pub mod waits; // Timer input and the wait of a timer alternative (000 1.11).
-pub mod guards; // Timer guards (000 1.11): enable timer and disable timer.
+// Timer queues (000 1.8, 1.10, 1.11), on a plan. Mirrors rules/specs/Timers.antt. Queue 0 is that of the high timer, queue 1 of the low one.
+// A step inserts or deletes as a whole (01, One step).
+pub mod timer_queue; // when a timer is ready, and its next time
+pub mod insertion; // InsertFirstStep to InsertFinalStep
+pub mod deletion; // DeleteFirstStep to DeleteFinalStep
+pub mod requests; // HandleTimerRequest
+pub mod waits; // `tin`, `talt`, `taltwt`
+pub mod guards; // `enbt`, `dist`

@@ -1,4 +1,4 @@
-// PROC HandleTimerRequest (000 1.8): the front process of a queue is taken off, and runs if it was waiting.
+// HandleTimerRequest (000 1.8): the front process leaves the queue, and runs if it was waiting.
 use crate::timer_queue::set_next;
 use crate::timer_queue::t_enabled;
 use crate::timer_queue::tptr_loc;
@@ -16,6 +16,7 @@ ghost use Prim.Native.Nat.{_<_};
 ghost use Rattle.rules.specs.Timers as timers;
 ghost use Rattle.plan.specs.View.{view, Room, Grown};
 
+// Makes the process ready and runs it.
 fn timed_out(w: Plan, mem: &[u32], queue: usize, front: u32) -> Plan
     requires { ⌜ (queue < 2) × Room 8 w ⌝ }
     ensures { λ r. ⌜ (view r ≡ timers.timedOut (now (mem .entry)) queue front (view w)) × Grown 8 w r ⌝ }
@@ -28,7 +29,7 @@ fn timed_out(w: Plan, mem: &[u32], queue: usize, front: u32) -> Plan
     )
 }
 
-// An IF of 000 with two branches: any other status is a Stop.
+// Runs a waiting process, leaves a ready one; refuses with STOP on any other status (DECISIONS 26).
 fn timer_status(w: Plan, mem: &[u32], queue: usize, front: u32, status: u32) -> Plan
     requires { ⌜ (queue < 2) × Room 8 w ⌝ }
     ensures { λ r. ⌜ (view r ≡ timers.timerStatus (now (mem .entry)) queue front status (view w)) × Grown 8 w r ⌝ }
@@ -42,6 +43,7 @@ fn timer_status(w: Plan, mem: &[u32], queue: usize, front: u32, status: u32) -> 
     refuse(w, STOP)
 }
 
+// Loads the status of the front process, at Pointer.s.
 fn timer_wake(w: Plan, mem: &[u32], queue: usize, front: u32) -> Plan
     requires { ⌜ (queue < 2) × Room 8 w ⌝ }
     ensures { λ r. ⌜ (view r ≡ timers.timerWake (now (mem .entry)) queue front (view w)) × Grown 8 w r ⌝ }
@@ -51,6 +53,7 @@ fn timer_wake(w: Plan, mem: &[u32], queue: usize, front: u32) -> Plan
     timer_status(load_word(w, mem, a), mem, queue, front, status)
 }
 
+// Sets the next time to that of the second process, if there is one.
 fn timer_next(w: Plan, mem: &[u32], queue: usize, second: u32) -> Plan
     requires { ⌜ (queue < 2) × Room 0 w ⌝ }
     ensures { λ r. ⌜ (view r ≡ timers.timerNext (now (mem .entry)) queue second (view w)) × Grown 0 w r ⌝ }
@@ -61,6 +64,7 @@ fn timer_next(w: Plan, mem: &[u32], queue: usize, second: u32) -> Plan
     set_next(w, mem, queue, second)
 }
 
+// Unlinks the front process: TLink.s gets TimeSet.p, and the second process becomes the front.
 fn timer_unlink(w: Plan, mem: &[u32], queue: usize, front: u32, second: u32) -> Plan
     requires { ⌜ (queue < 2) × Room 2 w ⌝ }
     ensures { λ r. ⌜ (view r ≡ timers.timerUnlink (now (mem .entry)) queue front second (view w)) × Grown 2 w r ⌝ }
@@ -74,6 +78,7 @@ fn timer_unlink(w: Plan, mem: &[u32], queue: usize, front: u32, second: u32) -> 
     )
 }
 
+// Serves the queue, then its front process (DECISIONS 41).
 fn timer_front(w: Plan, mem: &[u32], queue: usize, front: u32) -> Plan
     requires { ⌜ (queue < 2) × Room 10 w ⌝ }
     ensures { λ r. ⌜ (view r ≡ timers.timerFront (now (mem .entry)) queue front (view w)) × Grown 10 w r ⌝ }
@@ -88,6 +93,7 @@ fn timer_front(w: Plan, mem: &[u32], queue: usize, front: u32) -> Plan
     )
 }
 
+// Loads the front process, at TPtrLoc.
 fn timer_serve(w: Plan, mem: &[u32], queue: usize) -> Plan
     requires { ⌜ (queue < 2) × Room 10 w ⌝ }
     ensures { λ r. ⌜ (view r ≡ timers.timerServe (now (mem .entry)) queue (view w)) × Grown 10 w r ⌝ }
@@ -97,6 +103,7 @@ fn timer_serve(w: Plan, mem: &[u32], queue: usize) -> Plan
     timer_front(load_word(w, mem, a), mem, queue, front)
 }
 
+// HandleTimerRequest (000 1.8): disables the timer, and serves its queue.
 pub fn handle_timer_request(w: Plan, mem: &[u32], queue: usize) -> Plan
     requires { ⌜ (queue < 2) × Room 10 w ⌝ }
     ensures { λ r. ⌜ (view r ≡ timers.handleTimerRequest (now (mem .entry)) queue (view w)) × Grown 10 w r ⌝ }

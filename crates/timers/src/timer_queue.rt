@@ -1,4 +1,4 @@
-// When a timer is ready, and what its queue keeps in the registers (000 1.8). Level 0 is the high timer, level 1 the low one.
+// When a timer is ready (000 1.8), and the next time of its queue.
 use memory::store::r_index_word;
 use plan::Plan;
 use plan::put;
@@ -13,7 +13,7 @@ ghost use Rattle.rules.specs.Registers as registers;
 ghost use Rattle.rules.specs.Timers as timers;
 ghost use Rattle.plan.specs.View.{view, Room, Grown};
 
-// TEnabled, as a mask of the flags.
+// Returns the mask of TEnabled[queue] in the flags.
 pub fn t_enabled(queue: usize) -> u32
     requires { ⌜ queue < 2 ⌝ }
     ensures { λ r. ⌜ r ≡ registers.tEnabled queue ⌝ }
@@ -21,7 +21,7 @@ pub fn t_enabled(queue: usize) -> u32
     T_ENABLED_HIGH + 2 * (queue as u32)
 }
 
-// The address of the word with the front of a queue.
+// Returns the address of TPtrLoc[queue], the word that holds the front process (DECISIONS 40).
 pub fn tptr_loc(queue: usize) -> u32
     requires { ⌜ queue < 2 ⌝ }
     ensures { λ r. ⌜ r ≡ timers.tptrLoc queue ⌝ }
@@ -29,7 +29,7 @@ pub fn tptr_loc(queue: usize) -> u32
     at_word(TIMER_BASE, queue as u32)
 }
 
-// Enabled, and the time of the front process is not after the clock.
+// Tests whether a timer is enabled and its next time is not after the clock (000 1.8).
 fn timer_due(w: Plan, queue: usize) -> bool
     requires { ⌜ queue < 2 ⌝ }
     ensures { λ r. ⌜ r ≡ timers.timerDue queue (view w) ⌝ }
@@ -42,7 +42,7 @@ fn timer_due(w: Plan, queue: usize) -> bool
     !later(w.regs[next], w.regs[clock])
 }
 
-// The low timer is served only while the machine is at low priority (DECISIONS 16).
+// Tests whether a timer is ready; the low timer only while the machine is at low priority (DECISIONS 16).
 pub fn timer_ready(w: Plan, queue: usize) -> bool
     requires { ⌜ queue < 2 ⌝ }
     ensures { λ r. ⌜ r ≡ timers.timerReady queue (view w) ⌝ }
@@ -56,14 +56,14 @@ pub fn timer_ready(w: Plan, queue: usize) -> bool
     timer_due(w, 1)
 }
 
-// The time at which a process is ready is one more than the time that it waits for.
+// Adds 1 to the time in A, wrapping: a process is ready when the clock is after its time (000 1.11, timer input and timer alt wait).
 pub fn next_time(w: Plan) -> Plan
     ensures { λ r. ⌜ (view r ≡ timers.nextTime (view w)) × Grown 0 w r ⌝ }
 {
     put(w, AREG, wrap_add(w.regs[AREG], 1))
 }
 
-// The time of a process becomes the next time of its queue.
+// Loads the time of a process into TNextReg[queue] and enables the timer.
 pub fn set_next(w: Plan, mem: &[u32], queue: usize, process: u32) -> Plan
     requires { ⌜ (queue < 2) × Room 0 w ⌝ }
     ensures { λ r. ⌜ (view r ≡ timers.setNext (now (mem .entry)) queue process (view w)) × Grown 0 w r ⌝ }
