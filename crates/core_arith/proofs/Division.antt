@@ -1,4 +1,4 @@
--- Facts of products and of division that more than one proof cites.
+-- Products and division: lemmas of more than one proof.
 use mathlib.Core.Path.{_≡_, sym, _∙_}
 use mathlib.Core.Bool.{Bool, true, false, _&&_, _||_}
 use Prim.Native.Nat.{ℕ, _-_, _*_, _^_, _≤_, _<_}
@@ -9,7 +9,7 @@ use borrow.Author.Tests.{eqb-false}
 use Rattle.rules.specs.Stack.{undivided}
 use Rattle.rules.specs.declared.Core.{Core}
 
--- the product of two magnitudes
+-- a bound of the product of two magnitudes
 pub product-small : (a b : ℕ) → a ≤ 2 ^ 31 → b ≤ 2 ^ 31 → a * b ≤ 2 ^ 62
 product-small a b ha hb = omega (arith, mul-le-mul-right b ha)
 
@@ -17,7 +17,7 @@ or-right : (x y : Bool) → (x || y) ≡ false → y ≡ false
 or-right false y e = e
 or-right true y e = cc
 
--- what is divided is divided by something
+-- a division with a result has a divisor above 0
 pub divided : (s : Core) {t : Bool} → t ≡ false → t ≡ undivided s → 0 < s .a
 unfolding undivided
 divided s f e =

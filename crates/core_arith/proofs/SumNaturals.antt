@@ -1,4 +1,4 @@
--- A difference of natural numbers, as the two that it is kept by.
+-- A difference of natural numbers as a net number.
 use mathlib.Core.Path.{_≡_, ap, _∙_}
 use Prim.Native.Nat.{ℕ, _+_}
 use native.Mathlib.Omega.{arith}

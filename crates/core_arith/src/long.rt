@@ -1,5 +1,4 @@
-// Arithmetic of two words: operations that touch no memory, on the seven registers by value. Each is the code of the definition of its name.
-// Sums and differences are in the crate long_sums.
+// Products, quotients, shifts and checks of two words (000 1.11, long arithmetic). Sums and differences are in long_sums.
 use crate::long_sums::low_word;
 use crate::long_sums::split;
 use core_ops::errors::error_if;
@@ -13,7 +12,7 @@ ghost use mathlib.Core.Path.{_≡_};
 ghost use Prim.Native.Nat.{_/_, _^_};
 ghost use Rattle.rules.specs.Stack as stack;
 
-// Two words as one number.
+// Joins two words to one number of 64 bits.
 pub fn double(high: u32, low: u32) -> u64
     ensures { λ r. ⌜ r ≡ stack.double high low ⌝ }
 {
@@ -39,7 +38,7 @@ pub fn xdbl(s: Core) -> Core
     t
 }
 
-// The upper word must be the copy of the lower word's sign.
+// Check single: sets the error flag unless every bit of the upper word is the lower word's sign.
 pub fn csngl(s: Core) -> Core
     ensures { λ r. ⌜ r ≡ stack.csngl s ⌝ }
 {
@@ -68,7 +67,7 @@ pub fn ldiv(s: Core) -> Core
     split((v / s.a as u64) as u32, (v % s.a as u64) as u32, s)
 }
 
-// One place a turn.
+// Normalise: shifts left by one bit a turn until the top bit is 1.
 pub fn norm(s: Core) -> Core
     ensures { λ r. ⌜ r ≡ stack.norm s ⌝ }
 {
@@ -87,7 +86,7 @@ pub fn norm(s: Core) -> Core
     split(low_word(v), high_word(v), t)
 }
 
-// The low word goes on top. The language has no shift by 64.
+// Long shift left: A becomes the low word (DECISIONS 5). The count 64 is a case of its own, since the language has no shift by 64.
 pub fn lshl(s: Core) -> Attempt
     ensures { λ r. ⌜ r ≡ stack.lshl s ⌝ }
 {
@@ -101,7 +100,7 @@ pub fn lshl(s: Core) -> Attempt
     completed(split(low_word(v), high_word(v), s))
 }
 
-// The high word goes on top.
+// Long shift right: A becomes the high word (DECISIONS 5).
 pub fn lshr(s: Core) -> Attempt
     ensures { λ r. ⌜ r ≡ stack.lshr s ⌝ }
 {

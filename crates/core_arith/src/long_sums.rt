@@ -1,5 +1,4 @@
-// Sums and differences of two words with their carry, on the seven registers by value, and the two words of a result. Each operation is the code
-// of the definition of its name.
+// Sums and differences of two words with carry (000 1.11, long arithmetic).
 use crate::signed::biased;
 use crate::signed::overflow_check;
 use crate::signed::word_of;
@@ -9,7 +8,7 @@ ghost use Prim.Native.Nat.{_%_, _^_};
 ghost use Rattle.rules.specs.Stack as stack;
 ghost use Rattle.rules.specs.Core as core;
 
-// A := low; B := high.
+// Assigns the two words of a result: A := low; B := high.
 pub fn split(low: u32, high: u32, s: Core) -> Core
     ensures { λ r. ⌜ r ≡ core.withA low (core.withB high s) ⌝ }
 {
@@ -25,6 +24,7 @@ pub fn low_word(v: u64) -> u32
     (v % 0x1_0000_0000) as u32
 }
 
+// Returns the carry: bit 0 of C.
 pub fn carry_in(s: Core) -> u32
     ensures { λ r. ⌜ r ≡ stack.carryIn s ⌝ }
 {
@@ -51,7 +51,7 @@ pub fn lsub(s: Core) -> Core
     )
 }
 
-// The carry is 1 only where the sum is above 2^32: 000's test, to the letter.
+// Long sum: sets the carry only where the sum is above 2^32, by the letter of 000 (DECISIONS 4).
 pub fn lsum(s: Core) -> Core
     ensures { λ r. ⌜ r ≡ stack.lsum s ⌝ }
 {

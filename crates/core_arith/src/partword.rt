@@ -1,4 +1,4 @@
-// Numbers of less than a word: A unsigned, B signed.
+// Part words (000 1.11): A is unsigned, B signed (DECISIONS 9).
 use crate::signed::biased;
 use crate::signed::word_of;
 use core_ops::errors::error_if;

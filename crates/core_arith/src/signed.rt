@@ -1,4 +1,4 @@
-// Signed numbers and OverflowCheck (000 1.1, 1.2): the number p - m is kept as the two natural numbers p and m.
+// Signed numbers and OverflowCheck (000 1.1, 1.2). A number is kept as the difference p - m of two natural numbers.
 use core_ops::errors::set_error_flag;
 use core_ops::stack::with_a;
 use rules::Core;
@@ -10,21 +10,21 @@ ghost use Rattle.rules.specs.Core as core;
 ghost use Rattle.rules.specs.Words.{sign, restoreToRange};
 ghost use Rattle.words.specs.Net.{net, bias, magnitude as mag};
 
-// The word's signed value plus 2^31.
+// Returns the signed value of a word plus 2^31.
 pub fn biased(x: u32) -> u32
     ensures { λ r. ⌜ r ≡ bias x ⌝ }
 {
     std::num::wrapping_add_u32(x, 0x8000_0000)
 }
 
-// RestoreToRange of p - m.
+// RestoreToRange: returns the word of p - m.
 pub fn word_of(p: u64, m: u64) -> u32
     ensures { λ r. ⌜ r ≡ restoreToRange (net p m) ⌝ }
 {
     std::num::wrapping_sub_u32((p % 0x1_0000_0000) as u32, (m % 0x1_0000_0000) as u32)
 }
 
-// A := p - m; OverflowCheck (A).
+// Assigns A := p - m; OverflowCheck (A).
 pub fn overflow_check(p: u64, m: u64, s: Core) -> Core
     requires { ⌜ (p < 2 ^ 63) × (m < 2 ^ 63) ⌝ }
     ensures { λ r. ⌜ r ≡ core.overflowCheck (net p m) s ⌝ }
@@ -39,7 +39,7 @@ pub fn overflow_check(p: u64, m: u64, s: Core) -> Core
     set_error_flag(t)
 }
 
-// A := p - m; OverflowCheck (A); B := C.
+// Assigns A := p - m; OverflowCheck (A); B := C.
 pub fn checked(p: u64, m: u64, s: Core) -> Core
     requires { ⌜ (p < 2 ^ 63) × (m < 2 ^ 63) ⌝ }
     ensures { λ r. ⌜ r ≡ stack.checked (net p m) s ⌝ }
@@ -49,14 +49,14 @@ pub fn checked(p: u64, m: u64, s: Core) -> Core
     overflow_check(p, m, t)
 }
 
-// A word without its sign.
+// Returns the absolute value of a signed word.
 pub fn magnitude(x: u32) -> u32
     ensures { λ r. ⌜ (r ≡ mag x) × (r ≤ 2 ^ 31) ⌝ }
 {
     if x < 0x8000_0000 { x } else { !x + 1 }
 }
 
-// Rounded towards 0.
+// Divides signed words, rounding towards 0.
 pub fn quotient(b: u32, a: u32) -> u32
     requires { ⌜ 0 < a ⌝ }
     ensures { λ r. ⌜ r ≡ restoreToRange (quotZ (sign b) (sign a)) ⌝ }
@@ -74,7 +74,7 @@ pub fn quotient(b: u32, a: u32) -> u32
     word_of(q, 0)
 }
 
-// With the sign of b.
+// Returns the remainder of signed words, with the sign of b.
 pub fn remainder(b: u32, a: u32) -> u32
     requires { ⌜ 0 < a ⌝ }
     ensures { λ r. ⌜ r ≡ restoreToRange (remZ (sign b) (sign a)) ⌝ }

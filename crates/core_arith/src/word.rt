@@ -1,4 +1,4 @@
-// Arithmetic of one word (000 1.11), on the seven registers of rules::Core.
+// Arithmetic of one word (000 1.11).
 use crate::signed::biased;
 use crate::signed::checked;
 use crate::signed::magnitude;
@@ -47,7 +47,7 @@ pub fn mul(s: Core) -> Core
     checked(p, 0, s)
 }
 
-// By 0, or the least number by -1.
+// Tests for a division with no result: by 0, or MinInt by -1.
 pub fn undivided(s: Core) -> bool
     ensures { λ r. ⌜ r ≡ stack.undivided s ⌝ }
 {
@@ -60,8 +60,8 @@ pub fn undivided(s: Core) -> bool
     s.a == 0
 }
 
-// What div and rem do then.
-pub fn refused(s: Core) -> Core
+// Sets the error flag and B := C: div and rem where the division has no result.
+pub fn division_error(s: Core) -> Core
     ensures { λ r. ⌜ r ≡ core.setErrorFlag (core.withB (s .c) s) ⌝ }
 {
     let mut t = s;
@@ -73,7 +73,7 @@ pub fn div(s: Core) -> Core
     ensures { λ r. ⌜ r ≡ stack.div s ⌝ }
 {
     if undivided(s) {
-        return refused(s);
+        return division_error(s);
     }
     result(quotient(s.b, s.a), s)
 }
@@ -82,7 +82,7 @@ pub fn rem(s: Core) -> Core
     ensures { λ r. ⌜ r ≡ stack.rem s ⌝ }
 {
     if undivided(s) {
-        return refused(s);
+        return division_error(s);
     }
     result(remainder(s.b, s.a), s)
 }

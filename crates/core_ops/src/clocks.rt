@@ -1,4 +1,4 @@
-// Queue pointers and clocks (000 1.11), on the seven registers of rules::Core and on those of rules::System.
+// Queue pointers and clocks (000 1.11), on rules::Core and rules::System.
 use crate::stack::pop;
 use crate::stack::push;
 use rules::Both;

@@ -1,4 +1,4 @@
-// The error flag and halt-on-error, and the checks that set the first (000 1.2, 1.11), on the seven registers of rules::Core.
+// Error flag and halt-on-error, and the checks that set the error flag (000 1.2, 1.11).
 use crate::stack::pop;
 use crate::stack::push;
 use rules::Core;
@@ -29,14 +29,14 @@ pub fn error_if(test: bool, s: Core) -> Core
     if test { set_error_flag(s) } else { s }
 }
 
-// Unsigned.
+// Check subscript from 0, unsigned.
 pub fn csub0(s: Core) -> Core
     ensures { λ r. ⌜ r ≡ stack.csub0 s ⌝ }
 {
     error_if(s.a <= s.b, pop(s))
 }
 
-// Unsigned; a count of 0 is an error too.
+// Check count from 1, unsigned: a count of 0 is an error too.
 pub fn ccnt1(s: Core) -> Core
     ensures { λ r. ⌜ r ≡ stack.ccnt1 s ⌝ }
 {

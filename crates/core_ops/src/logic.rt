@@ -1,4 +1,4 @@
-// Subscripts, counts and bits (000 1.11), on the seven registers of rules::Core. Arithmetic is in the crates arith and long.
+// Subscripts, counts, bits and shifts (000 1.11).
 use crate::stack::result;
 use crate::stack::with_a;
 use rules::Attempt;
@@ -26,14 +26,14 @@ pub fn bcnt(s: Core) -> Core
     with_a(s.a << 2, s)
 }
 
-// A quarter, rounded down: the bits move two places, and the sign is copied.
+// Divides a signed word by 4, rounding down: shifts right by two bits and copies the sign.
 pub fn quarter(x: u32) -> u32
     ensures { λ r. ⌜ r ≡ restoreToRange (shrZ (sign x) 4) ⌝ }
 {
     if x < 0x8000_0000 { x >> 2 } else { !(!x >> 2) }
 }
 
-// The word count is the shift that copies the sign.
+// Word count: A becomes the count, by a shift that copies the sign, and B the byte selector.
 pub fn wcnt(s: Core) -> Core
     ensures { λ r. ⌜ r ≡ stack.wcnt s ⌝ }
 {
@@ -68,6 +68,7 @@ pub fn bitnot(s: Core) -> Core
     with_a(!s.a, s)
 }
 
+// Wraps the registers of an operation that completes.
 pub fn completed(s: Core) -> Attempt
     ensures { λ r. ⌜ r ≡ stack.completed s ⌝ }
 {
@@ -77,6 +78,7 @@ pub fn completed(s: Core) -> Attempt
     }
 }
 
+// Wraps the registers of an operation that Stops: an IF of 000 with no true branch.
 pub fn stopped(s: Core) -> Attempt
     ensures { λ r. ⌜ r ≡ stack.stopped s ⌝ }
 {
@@ -86,7 +88,7 @@ pub fn stopped(s: Core) -> Attempt
     }
 }
 
-// The language has no shift by 32.
+// Shift left: Stops where the count is above 32. The count 32 is a case of its own, since the language has no shift by 32.
 pub fn shl(s: Core) -> Attempt
     ensures { λ r. ⌜ r ≡ stack.shl s ⌝ }
 {

@@ -1,11 +1,11 @@
-// The evaluation stack, the operand, the workspace and the instruction pointer.
+// Evaluation stack, operand, workspace and instruction pointer (000 1.2, 1.3, 1.11).
 use rules::Core;
 use rules::names::*;
 ghost use mathlib.Core.Path.{_≡_};
 ghost use Rattle.rules.specs.Stack as stack;
 ghost use Rattle.rules.specs.Core as core;
 
-// C := B; B := A; A := x.
+// Pushes x: C := B; B := A; A := x.
 pub fn push(x: u32, s: Core) -> Core
     ensures { λ r. ⌜ r ≡ core.push x s ⌝ }
 {
@@ -16,7 +16,7 @@ pub fn push(x: u32, s: Core) -> Core
     t
 }
 
-// A := B; B := C.
+// Pops A: A := B; B := C; C keeps its value.
 pub fn pop(s: Core) -> Core
     ensures { λ r. ⌜ r ≡ core.pop s ⌝ }
 {
@@ -26,7 +26,7 @@ pub fn pop(s: Core) -> Core
     t
 }
 
-// A := x; B := C.
+// Replaces the operands A and B by the result x: A := x; B := C.
 pub fn result(x: u32, s: Core) -> Core
     ensures { λ r. ⌜ r ≡ core.result x s ⌝ }
 {
@@ -36,7 +36,7 @@ pub fn result(x: u32, s: Core) -> Core
     t
 }
 
-// A := x.
+// Assigns A := x.
 pub fn with_a(x: u32, s: Core) -> Core
     ensures { λ r. ⌜ r ≡ core.withA x s ⌝ }
 {
@@ -45,7 +45,7 @@ pub fn with_a(x: u32, s: Core) -> Core
     t
 }
 
-// A new workspace with the old priority ORed in.
+// Moves Wdesc to a new workspace; ORs the old priority in (DECISIONS 12).
 pub fn move_workspace(wptr: u32, s: Core) -> Core
     ensures { λ r. ⌜ r ≡ core.moveWorkspace wptr s ⌝ }
 {
@@ -82,7 +82,7 @@ pub fn eqc(s: Core) -> Core
     }
 }
 
-// The stack keeps where the jump is taken.
+// Conditional jump: keeps the stack where the jump is taken, else pops A (DECISIONS 8).
 pub fn cj(s: Core) -> Core
     ensures { λ r. ⌜ r ≡ stack.cj s ⌝ }
 {
@@ -131,7 +131,7 @@ pub fn ldpi(s: Core) -> Core
     with_a(words::at_byte(s.iptr, s.a), s)
 }
 
-// Nothing is masked: an odd A at high priority makes the priority low.
+// General adjust workspace: masks nothing, so an odd A at high priority makes the priority low (DECISIONS 12).
 pub fn gajw(s: Core) -> Core
     ensures { λ r. ⌜ r ≡ stack.gajw s ⌝ }
 {

@@ -1,5 +1,4 @@
--- The machine t414 does what the calls of `rules` do, with their checks in their order: 1, 3, 4, the call's own, 12; undo: 1, 4, 5, 4.
---
+-- The machine t414 gives the outcomes of the calls of `rules`, with their checks in their order: 1, 3, 4, the work of the call, 12; undo: 1, 4, 5, 4.
 use mathlib.Core.Path.{_≡_, refl, ap, _∙_}
 use mathlib.Core.Bool.{Bool, true, false, _||_}
 use mathlib.Core.List.{List, [], _∷_}
@@ -122,7 +121,7 @@ module _ (s : Whole) where
 
   -- ---- each call
 
-  -- the checks before it, in their order
+  -- the checks before a call, in their order
   checks : Act Call → Option ℕ
   checks a = guard a (view s .core) (length (s .journal)) (s .machine .depth) (s .machine .used)
 

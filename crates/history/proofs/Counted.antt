@@ -1,6 +1,5 @@
--- Depth and used are counted, not invented: an accepted step, tick, take, give or event adds one to depth, and to used the length of its record, 46
--- words and two for each memory word stored to; an accepted undo takes one from depth, and the last record's length from used; an accepted fresh or
--- clear leaves both 0.
+-- Depth and used after an accepted call: a step, tick, take, give or event adds one to depth, and to used the length of its record, 46 words and two
+-- for each memory word stored to; an undo takes one from depth, and the last record's length from used; after fresh and clear both are 0.
 use mathlib.Core.Path.{_≡_, refl, sym, subst}
 use mathlib.Core.Bool.{Bool}
 use mathlib.Core.List.{List}
@@ -19,7 +18,7 @@ use Rattle.history.specs.T414.{step, tick, take, give, event}
 use Rattle.history.specs.Contracts.{FreshContract, StepContract, TickContract, TakeContract, GiveContract, EventContract, UndoContract, ClearContract, number}
 use Rattle.history.specs.Counted.{Counted, oneMore, oneLess, noRecord}
 
--- where it is accepted, depth and used become these
+-- an accepted outcome has this depth and this used
 pub record Counts (depth used : ℕ) (o : Outcome) : Type 0 where
   pub counts : o .answer ≡ 0 → (o .machine .depth ≡ depth) × (o .machine .used ≡ used)
 

@@ -1,11 +1,11 @@
--- The three demands, stated of the contracts of the eight public functions (specs/Contracts.antt) in one page. The proofs are the files named.
+-- The three demands (01, What the contracts have to say) on the contracts of the eight public functions (specs/Contracts.antt), on one page. The
+-- proofs are in the files imported here.
 --
--- 1. TOTAL. Every call, handed anything at all, gives one of 01's answers; a refused one changes nothing.
--- 2. EXACT. The contract determines the answer, the registers, depth, used and every lent word, and no second answer meets it; number n is
---    answered exactly when 01's condition of n holds and that of no number before it; depth and used are counted by the records.
--- 3. REVERSIBLE. After any sequence the machine is what the accepted calls that have not been undone give; undoing leads back through it.
---
---
+-- 1. TOTAL. Every call, from any input, gives one of 01's answers; a refused call changes nothing.
+-- 2. EXACT. The contract determines the answer, the registers, depth, used and every lent word, and no second result meets it; the answer is n
+--    exactly when 01's condition of n holds and that of no number before it; depth and used count the records.
+-- 3. REVERSIBLE. After any sequence the machine is the one that the standing calls (accepted and not undone) give; undos lead back through the
+--    sequence.
 use mathlib.Core.Path.{_≡_}
 use mathlib.Core.Logic.{_↔_}
 use mathlib.Core.List.{List, [], _++_}
@@ -38,8 +38,8 @@ use Rattle.history.proofs.Counted.{fresh-counted, step-counted, tick-co
 use Rattle.history.proofs.Public.{public-history, public-records, public-undone}
 use Rattle.history.proofs.Functions.{byTheRules, rules-meet, reversible}
 
--- of one call: some result meets its contract, and no second one; it refuses exactly by its table, and cleanly (m is the machine before it);
--- where it is accepted, depth and used are these
+-- demands 1 and 2 of one call: some result meets its contract, and no second one; it refuses exactly by its table, and cleanly (m is the machine
+-- before it); an accepted call leaves the depth and used that `counts` gives
 pub record TotalAndExact (C : Contract) (numbers : List ℕ → List ℕ → List (ℕ × Bool)) (counts : List ℕ → List ℕ → ℕ × ℕ) (m : Machine) : Type 0 where
   pub total : Total C
   pub refuses-cleanly : RefusesCleanly m C
@@ -47,7 +47,7 @@ pub record TotalAndExact (C : Contract) (numbers : List ℕ → List ℕ → Lis
   pub answers-exactly : AnswersExactly numbers C
   pub counted : Counted C counts
 
--- ---- demands 1 and 2, of the eight
+-- ---- demands 1 and 2, of the eight calls
 
 pub fresh-demands : (code : List ℕ) → TotalAndExact (FreshContract code) (freshNumbers code) noRecord noMachine
 fresh-demands code = record { total = fresh-total code; refuses-cleanly = fresh-refused code; one-answer = fresh-unique code; answers-exactly = fresh-exactly code; counted = fresh-counted code }
@@ -75,57 +75,57 @@ module _ (m : Machine) (h : length (m .regs) ≡ registers) where
   pub clear-demands : TotalAndExact (ClearContract m) (clearNumbers m) noRecord m
   clear-demands = record { total = clear-total m h; refuses-cleanly = clear-refused m; one-answer = clear-unique m; answers-exactly = clear-exactly m; counted = clear-counted m }
 
--- ---- 10 and 11 of a step, said without its own answer
+-- ---- 10 and 11 of a step, by its accesses and not by its answer
 
 module _ (m : Machine) (h : length (m .regs) ≡ registers) (mem j : List ℕ) (r : Reply) (mem′ j′ : List ℕ) (step : StepContract m mem j r mem′ j′) where
   -- no access inside memory is refused: an answer 10 comes with a kind of access, 1 to 3, at an address outside memory
   pub outside-demand : number r ≡ outside → Witness (length mem) (steps.step mem (begin (m .regs)))
   outside-demand = step-witness m h mem j r mem′ j′ step
 
-  -- where (c) applies and Iptr is outside memory, 10 is answered
+  -- the answer is 10 where (c) applies and Iptr is outside memory
   pub fetch-demand : sizeBad mem j ≡ false → frame m j ≡ false → isHalted (m .regs) ≡ false → isIdle (m .regs) ≡ false → fetches (m .regs) ≡ true
       → length mem ≤ index (getD (m .regs) iptrReg 0) → number r ≡ outside
   fetch-demand = step-fetch-outside m h mem j r mem′ j′ step
 
-  -- nothing of what lies behind memory comes into the result: any other result is that in a memory with words appended, which stay as they are
+  -- the result does not depend on words behind memory: any other result is the result in a memory with words appended, which stay unchanged
   pub inside-demand : (number r ≡ outside → ⊥) → (x : List ℕ) → 64 ≤ length mem → length (mem ++ x) ≤ 16384
       → (r₂ : Reply) (mem₂ j₂ : List ℕ) → StepContract m (mem ++ x) j r₂ mem₂ j₂ → Same r₂ r mem₂ (mem′ ++ x) j₂ j′
   inside-demand = step-longer m h mem j r mem′ j′ step
 
-  -- where no earlier number holds, 11 is answered exactly where the step comes to one of the places that Stop (crates/laws/specs/Stops.antt)
+  -- where no earlier number holds, the answer is 11 exactly where the step reaches one of the places that Stop (crates/laws/specs/Stops.antt)
   pub stop-demand : sizeBad mem j ≡ false → frame m j ≡ false → isHalted (m .regs) ≡ false → isIdle (m .regs) ≡ false
       → (number r ≡ stop) ↔ (stops (m .regs) mem ≡ true)
   stop-demand = step-stops m h mem j r mem′ j′ step
 
 -- ---- demand 3, of the contracts
 
--- from any fresh machine and any list of steps, ticks, takes, gives, events and undos, some refused, each call handed what the one before left
+-- from any fresh machine and any list of steps, ticks, takes, gives, events and undos, some refused, each from the state that the call before left
 module _
     (code mem j : List ℕ) (r₀ : Reply) (mem₀ j₀ : List ℕ) (fresh : FreshContract code mem j r₀ mem₀ j₀)
     (acts : List (Act Call)) (numbers : List ℕ) (t : Whole) (made : Chain (left r₀ mem₀ j₀) acts numbers t)
   where
-    -- what fresh left
+    -- the state after fresh
     abbrev pub begun : Whole
     begun = left r₀ mem₀ j₀
 
-    -- the accepted calls, undos apart, that have not been undone; the last one first
+    -- the standing calls: accepted, no undos, and not undone; the last call first
     abbrev pub standing : List Call
     standing = stands acts numbers []
 
-    -- the registers and all memory equal what the rules give for them, in order
+    -- the registers and all memory are those that the rules give for the standing calls, in order
     pub history-demand : plain t ≡ given (plain begun) standing
     history-demand = public-history code mem j r₀ mem₀ j₀ fresh acts numbers t made .0
 
-    -- depth is their number
+    -- depth is the number of standing calls
     pub depth-demand : t .machine .depth ≡ length standing
     depth-demand = public-history code mem j r₀ mem₀ j₀ fresh acts numbers t made .1
 
-    -- used and the journal's words in use (and all else that shows) are those of a run of these calls alone, in order; in it none is refused
+    -- the visible state, with used and the journal's words in use, is that of a run of the standing calls alone, in order; in that run none is refused
     pub records-demand : (shown t ≡ shown (run (inOrder standing) begun)) × (calls.standing (inOrder standing) begun [] ≡ standing)
     records-demand = public-records code mem j r₀ mem₀ j₀ fresh acts numbers t made
 
-    -- undoing n where at least n stand: every undo is accepted, and registers, memory, depth and used (and the journal's words in use) are as
-    -- before the last n of these, at a moment of the same sequence when all the others stood
+    -- n undos where at least n calls stand: every undo is accepted, and registers, memory, depth and used (and the journal's words in use) are as
+    -- before the last n standing calls, at a moment of the same sequence when all the others stood
     pub undo-demand : (n : ℕ) → n ≤ length standing → (others : List ℕ) (u : Whole) → Chain t (replicate n undo) others u
         → (others ≡ replicate n 0)
         × (m : Moment begun acts numbers t) × (stands (m .calls-before) (m .numbers-before) [] ≡ drop n standing)
@@ -134,10 +134,11 @@ module _
 
 -- ---- demand 3, of functions
 
--- any eight functions that meet the contracts satisfy it, run from fresh: the same four things, and they do again what they did (specs/Functions.antt)
+-- any eight functions that meet the contracts satisfy demand 3, run from fresh: the four theorems above, and the standing calls, made again by the
+-- functions, give the same state (specs/Functions.antt)
 pub functions-demand : (F : Functions) → MeetContracts F → Reversible F
 functions-demand = reversible
 
--- and there are such functions
+-- such functions exist
 pub functions-exist : MeetContracts byTheRules
 functions-exist = rules-meet

@@ -1,5 +1,5 @@
--- Refusing exactly: a call answers n exactly when the condition of n in 01's table holds and that of no number before it; it is accepted exactly
--- when none holds. Each number's condition is a definition of its own (crates/refusals/specs/Conditions.antt).
+-- Exact refusals: a call answers n exactly when the condition of n in 01's table holds and that of no number before it; it is accepted exactly
+-- when no condition holds. The conditions are the definitions of crates/refusals/specs/Conditions.antt.
 use mathlib.Core.Path.{_≡_, refl, sym, ap, subst, _∙_}
 use mathlib.Core.Logic.{_↔_}
 use mathlib.Core.Bool.{Bool, true, false}
@@ -17,7 +17,7 @@ use Rattle.refusals.proofs.Exactly as rules-are
 use Rattle.history.specs.Contracts.{FreshContract, StepContract, TickContract, TakeContract, GiveContract, EventContract, UndoContract, ClearContract, number}
 use Rattle.history.specs.Given.{Given, none, holds, later, AnswersExactly}
 
--- `firstOf` gives the one number that is given
+-- the number of `firstOf` is `Given`
 given-first : (es : List (ℕ × Bool)) → Given (firstOf es) es
 unfolding firstOf
 given-first [] = none
@@ -42,7 +42,7 @@ exactly es o r mem j e first n =
 pub fresh-exactly : (code : List ℕ) → AnswersExactly (freshNumbers code) (FreshContract code)
 fresh-exactly code mem j r mem′ j′ e n = exactly (freshNumbers code mem j) _ r mem′ j′ e (rules-are.fresh-exactly rules.noMachine mem j code) n
 
--- of a machine of 45 registers
+-- for a machine of 45 registers
 pub step-exactly : (m : Machine) → length (m .regs) ≡ registers → AnswersExactly (stepNumbers m) (StepContract m)
 step-exactly m h mem j r mem′ j′ e n = exactly (stepNumbers m mem j) _ r mem′ j′ e (rules-are.step-exactly m mem j h) n
 

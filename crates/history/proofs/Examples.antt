@@ -24,7 +24,7 @@ use Rattle.history.specs.T414.{Call, step, Whole, perform, after, run, s
 abbrev pub begun : Whole
 begun = after (fresh (0x41 ∷ 0x81 ∷ []) (replicate 64 0) (replicate 92 0))
 
--- A, depth, used, and what one undo more answers
+-- A, depth, used, and the answer of one more undo
 abbrev pub facts : Whole → List ℕ
 facts s = getD (s .machine .regs) areg 0 ∷ s .machine .depth ∷ s .machine .used ∷ perform undo s .answer ∷ []
 

@@ -1,5 +1,5 @@
--- DEMAND 3 OF FUNCTIONS: any eight functions that meet the contracts satisfy it, by the history over chains of contracts. And there are such
--- functions, so that nothing said of functions that meet the contracts holds for lack of one.
+-- Demand 3 of functions: any eight functions that meet the contracts satisfy it, by the history over chains of contracts. Such functions exist,
+-- so the theorem is not empty.
 use mathlib.Core.Path.{_≡_, sym, ap, subst, _∙_}
 use mathlib.Core.List.{List, [], _∷_}
 use Prim.Native.Nat.{ℕ, _≤_}
@@ -20,7 +20,7 @@ use Rattle.history.proofs.Public.{met-is, chain-run, chain-stands, fres
 
 -- ---- functions that meet the contracts
 
--- what an outcome of the rules hands back
+-- the result of an outcome of the rules
 abbrev pub resultOf : Outcome → Result
 resultOf o = record { reply = replyOf o; memory = o .memory; journal = o .journal }
 
@@ -51,7 +51,7 @@ rules-meet =
       clear = λ m h mem j. told _ (kept-clear m mem j h .known);
     }
 
--- ---- functions that meet the contracts make a chain of them
+-- ---- functions that meet the contracts make a chain of contracts
 
 module _ (F : Functions) (M : MeetContracts F) where
   met : (a : Act Call) (s : Whole) → Whole45 s → Met a s (made F a s .reply) (made F a s .memory) (made F a s .journal)
@@ -71,7 +71,7 @@ module _ (F : Functions) (M : MeetContracts F) where
   chain [] s h = ended
   chain (a ∷ acts) s h = chains.made _ _ _ (met a s h) (chain acts _ (still45 a s h))
 
-  -- they do what the rules do
+  -- the functions leave the state that the rules leave
   ran-is : (acts : List (Act Call)) (s : Whole) → Whole45 s → ran F acts s ≡ run acts s
   ran-is acts s h = chain-run (chain acts s h)
 

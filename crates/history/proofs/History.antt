@@ -1,5 +1,5 @@
--- The history theorem over any machine whose records are sound (`Laws`): after any list of calls and undos, what shows of the state is what
--- shows once the standing calls alone are made, in order; and undoing n times brings back what showed at an earlier moment.
+-- The history theorem for any machine whose records are sound (`Laws`): after any list of calls and undos the visible state is the one after
+-- the standing calls alone, made in order; and n undos restore the visible state of an earlier moment.
 use mathlib.Core.Path.{_≡_, refl, sym, ap, _∙_}
 use mathlib.Core.Logic.{_⊎_, inl, inr, ⊎-elim}
 use mathlib.Core.List.{List, [], _∷_, _++_}
@@ -10,7 +10,7 @@ use lib.Seq.{drop-drop, drop-nil}
 use Rattle.history.specs.Machine.{Machine, State, Act, call, undo, Answer, no-way, done, stack, inOrder, perform, run, standing, replay, words, empty, Laws}
 use Rattle.history.proofs.Invariant.{Inv, inv-empty, inv-run, inv-undos, inv-again, standing-again}
 
--- What shows of a state: the core, the depth, how many journal words are in use, and these words; not what lies in the journal past them.
+-- the visible state: the core, the depth, the number of journal words in use, and these words; not the journal past them
 pub record Seen (C : Type 0) : Type 0 where
   pub core : C
   pub depth : ℕ
@@ -20,7 +20,7 @@ pub record Seen (C : Type 0) : Type 0 where
 abbrev pub seen : {C : Type 0} → State C → Seen C
 seen s = record { core = s .core; depth = s .depth; used = s .used; words = take (s .used) (s .journal) }
 
--- what shows once the calls of k, the last one first, were made on an empty journal at x, and nothing else
+-- the visible state after the calls of k alone, the last call first, made from the core x with an empty journal
 abbrev pub made : (M : Machine) → M .Core → List (M .Call) → Seen (M .Core)
 made M x k = record { core = replay M x k; depth = length k; used = length (words M x k); words = words M x k }
 
@@ -28,7 +28,7 @@ seen-inv : (M : Machine) (J : ℕ) (x : M .Core) (s : State (M .Core)) (k : List
 seen-inv M J x s k i = cc
 
 module _ (M : Machine) (Ok : M .Core → Type 0) (L : Laws M Ok) (x : M .Core) (o : Ok x) (j : List ℕ) (acts : List (Act (M .Call))) where
-  -- the calls that stand after the run, the last one first
+  -- the standing calls after the run, the last call first
   abbrev pub left : List (M .Call)
   left = standing M acts (empty M x j) []
 
@@ -41,20 +41,20 @@ module _ (M : Machine) (Ok : M .Core → Type 0) (L : Laws M Ok) (x : M .Core) (
   pub history-seen : seen end ≡ made M x left
   history-seen = seen-inv M (length j) x end left inv-end
 
-  -- THEOREM A: the core is what the standing calls make of the first one, without a journal
+  -- THEOREM A: the core is the one that the standing calls make of the first core, without a journal
   pub history-core : end .core ≡ replay M x left
   history-core = inv-end .core
 
   pub history-depth : end .depth ≡ length left
   history-depth = inv-end .depth
 
-  -- and all that shows is what the standing calls give, made in order
+  -- the visible state is the one after the standing calls, made in order
   pub history : seen end ≡ seen (run M (inOrder left) (empty M x j))
   history =
       history-seen
       ∙ sym (seen-inv M (length j) x _ left (inv-again M Ok L (length j) x o left (inv-end .stood) (empty M x j) (inv-empty M (length j) x j refl)))
 
-  -- in which they are all accepted
+  -- the standing calls, made in order, are all accepted
   pub history-stands : standing M (inOrder left) (empty M x j) [] ≡ left
   history-stands = standing-again M Ok L (length j) x o left (inv-end .stood) (empty M x j) (inv-empty M (length j) x j refl)
 
@@ -64,12 +64,12 @@ module _ (M : Machine) (Ok : M .Core → Type 0) (L : Laws M Ok) (x : M .Core) (
 
 -- ---- the moment before the calls that are undone
 
--- a part of the acts, from the first on, after which all that stands now but for the last n calls stood
+-- a moment: the first acts, after which all calls that stand now stood, but for the last n
 pub Moment : (M : Machine) → List (Act (M .Call)) → State (M .Core) → List (M .Call) → ℕ → Type 0
 Moment M acts s k n =
     (then : List (Act (M .Call))) × (rest : List (Act (M .Call))) × (acts ≡ then ++ rest) × (standing M then s k ≡ drop n (standing M acts s k))
 
--- but for its last m calls, what stands after one call is all of it, or stood before
+-- the standing calls after one act, without the last m, are all of them, or stood before
 stack-drop : {K : Type 0} (a : Act K) (r : Answer) (k : List K) (m : ℕ) → (m ≡ 0) ⊎ ((n : ℕ) × (drop m (stack a r k) ≡ drop n k))
 stack-drop a r k zero = inl refl
 stack-drop (call c) (no-way n) k (suc m) = inr (suc m, refl)
@@ -94,7 +94,7 @@ module _ (M : Machine) (Ok : M .Core → Type 0) (L : Laws M Ok) (x : M .Core) (
       → seen (run M (replicate n undo) (run M acts (empty M x j))) ≡ seen (run M then (empty M x j))
   undone-to then n h e = undone M Ok L x o j acts n h ∙ sym (history-seen M Ok L x o j then ∙ ap (λ (k : List (M .Call)). made M x k) e)
 
-  -- THEOREM B, in full: n undos, where at least n records stand, bring back what showed at an earlier moment of the run, when all but the
+  -- THEOREM B, in full: n undos, where at least n calls stand, restore the visible state of an earlier moment of the run, when all but the
   -- last n of the calls that stand now stood
   pub undone-moment : (n : ℕ) → n ≤ run M acts (empty M x j) .depth
       → (then : List (Act (M .Call))) × (rest : List (Act (M .Call))) × (acts ≡ then ++ rest)

@@ -1,5 +1,5 @@
--- The invariant of the history theorem, over any machine whose records are sound (`Laws`): the words in use are the records of the calls that
--- stand. Calls, undos and calls made again keep it. And the law of undo.
+-- The invariant of the history theorem, for any machine whose records are sound (`Laws`): the journal's words in use are the records of the
+-- standing calls. Calls, undos and calls made again keep it. And the law of undo.
 use mathlib.Core.Path.{_≡_, refl, sym, ap, subst, _∙_}
 use mathlib.Core.Bool.{Bool, true, false}
 use mathlib.Core.List.{List, [], _∷_, _++_, reverseAux, map}
@@ -11,9 +11,9 @@ use lib.Dec.{ltb, eqb}
 use lib.ListN.{length, take, drop, replicate, length-append}
 use lib.Seq.{sets, sets-eq, length-sets, take-at, take-append-seam, length-take-le, take-take}
 use Rattle.history.specs.Machine.{Effect, refused, accepted, Machine, State, Act, call, undo, Answer, no-way, done, Done}
-use Rattle.history.specs.Machine.{push, settle, undoing, guarded, act, after, recorded, stack, inOrder, perform, run, standing, replay, words, empty, Laws}
+use Rattle.history.specs.Machine.{push, settle, undoing, guarded, act, recorded, stack, inOrder, perform, run, standing, replay, words, empty, Laws}
 
--- the words before i stay, and those of w come after them
+-- the words before i stay, and the words of w come after them
 pub take-sets : (l : List ℕ) (i : ℕ) (w : List ℕ) → i + length w ≤ length l → take (i + length w) (sets l i w) ≡ take i l ++ w
 take-sets l i w h =
     rw (sets-eq w l i h)
@@ -26,7 +26,7 @@ take-front l p q n e h =
     sym (take-take (length p) n l shorter) ∙ ap (λ (m : List ℕ). take (length p) m) e ∙ take-append-seam p q
 
 module _ (M : Machine) (J : ℕ) (x : M .Core) where
-  -- the call c was accepted after the calls of k: no guard stood before it, `next` accepted it, and its record fitted
+  -- the call c was accepted after the calls of k: the guard did not refuse it, `next` accepted it, and its record fitted
   pub record Accepted (c : M .Call) (k : List (M .Call)) : Type 0 where
     pub core : M .Core
     pub record-words : List ℕ
@@ -54,7 +54,7 @@ module _ (M : Machine) (J : ℕ) (x : M .Core) where
   unfolding replay words Stood
   inv-empty j h = record { core = refl; depth = refl; used = refl; room = omega arith; kept = refl; size = h; stood = tt }
 
-  -- a call that is accepted
+  -- an accepted call keeps the invariant
   inv-push : (s : State (M .Core)) (k : List (M .Call)) (c : M .Call) (y : M .Core) (w : List ℕ) (b : ℕ) → Inv s k
       → M .guard (call c) (s .core) (length (s .journal)) (s .depth) (s .used) ≡ none
       → M .next c (s .core) ≡ accepted y w b
@@ -115,7 +115,7 @@ module _ (M : Machine) (J : ℕ) (x : M .Core) where
       }
 
 module _ (M : Machine) (Ok : M .Core → Type 0) (L : Laws M Ok) where
-  -- an undo right after a record that was made at the core x, behind the words of front
+  -- an undo right after a record that was written from the core x, behind the words of front
   undo-back : (s : State (M .Core)) (c : M .Call) (x : M .Core) (w : List ℕ) (b : ℕ) → Ok x → M .next c x ≡ accepted (s .core) w b
       → (front : List ℕ) (depth : ℕ) → s .depth ≡ depth + 1 → s .used ≡ length front + length w
       → take (s .used) (s .journal) ≡ front ++ w → s .used ≤ length (s .journal)
@@ -130,7 +130,7 @@ module _ (M : Machine) (Ok : M .Core → Type 0) (L : Laws M Ok) where
       (u, d, L .passes c x (s .core) w b o e (length (s .journal)) depth (length front) g r′, ne-eqb (depth + 1) 0 (omega arith), L .back c x (s .core) w b o e front (s .journal) t′ r′)
       (rw one)
 
-  -- THE LAW OF UNDO: a call that is accepted, in any state, and then an undo: the core, depth and used are as before
+  -- THE LAW OF UNDO: in any state, an undo after an accepted call restores core, depth and used
   pub undo-law : (s : State (M .Core)) (c : M .Call) (b : ℕ) → Ok (s .core) → (perform M (call c) s) .answer ≡ done b
       → perform M undo ((perform M (call c) s) .state)
       ≡ record { answer = done 0; state = record { core = s .core; depth = s .depth; used = s .used; journal = (perform M (call c) s) .state .journal } }
@@ -179,7 +179,7 @@ module _ (M : Machine) (Ok : M .Core → Type 0) (L : Laws M Ok) (J : ℕ) (x : 
       let a = st .0 in
       rw (a .does) (L .keeps c (replay M x k) (a .core) (a .record-words) (a .byte) (ok-replay k (st .1)) (a .does))
 
-  -- an undo with a call standing is accepted, and is as if that call had not been made
+  -- an undo with a call standing is accepted, and the state is as if the last call had not been made
   perform-undo : (s : State (M .Core)) (c : M .Call) (k : List (M .Call)) → Inv M J x s (c ∷ k)
       → perform M undo s ≡ record { answer = done 0; state = before M J x s k }
   unfolding replay words Stood
@@ -195,7 +195,7 @@ module _ (M : Machine) (Ok : M .Core → Type 0) (L : Laws M Ok) (J : ℕ) (x : 
       (i .room)
       (rw (i .size) (a .free))
 
-  -- with none standing it is refused, and changes nothing
+  -- an undo with no call standing is refused, and changes nothing
   undo-none : (s : State (M .Core)) → Inv M J x s [] → (n : ℕ) × (perform M undo s ≡ record { answer = no-way n; state = s })
   unfolding perform act
   undo-none s i = go (M .guard undo (s .core) (length (s .journal)) (s .depth) (s .used))
@@ -263,7 +263,7 @@ module _ (M : Machine) (Ok : M .Core → Type 0) (L : Laws M Ok) (J : ℕ) (x : 
       standing-redo k (c ∷ l) (st .1) s i
       ∙ ap (λ (r : Answer). standing M (map call l) (redo (c ∷ k) s) (stack (call c) r k)) (perform-again (redo k s) c k (inv-redo k (st .1) s i) (st .0) .0)
 
-  -- they all stand again
+  -- the calls made again all stand
   pub standing-again : (k : List (M .Call)) → Stood M J x k → (s : State (M .Core)) → Inv M J x s [] → standing M (inOrder k) s [] ≡ k
   unfolding standing
   standing-again k st s i = standing-redo k [] st s i

@@ -1,5 +1,5 @@
--- A contract that leaves one thing open has two results: memory, journal, registers, depth, used, byte or answer, of each of the eight, from any
--- machine of 45 registers and any memory and journal of a word at least.
+-- Each of the eight contracts has two results when it leaves one part open: memory, journal, registers, depth, used, byte or answer; from any
+-- machine of 45 registers, and any memory and journal of at least one word.
 use mathlib.Core.Path.{_≡_, refl, sym, ap, _∙_}
 use mathlib.Core.List.{List}
 use Prim.Native.Nat.{ℕ, _-_, _<_}
@@ -26,7 +26,7 @@ use Rattle.history.proofs.Functions.{resultOf}
 other-number : (n : ℕ) → n ≡ 1 - n → ⊥
 other-number n e = omega (arith, e)
 
--- another list of the same length: its first word is another
+-- another list of the same length: its first word differs
 abbrev otherList : List ℕ → List ℕ
 otherList l = set l 0 (1 - getD l 0 0)
 
@@ -43,7 +43,7 @@ module _ (rule : List ℕ → List ℕ → Outcome) (mem j : List ℕ) (k : Kept
   tells : outcomeOf r (o .memory) (o .journal) ≡ o
   tells = told o (k .known)
 
-  -- what the rules hand back, and the same but for the reply
+  -- the result of the rules, and the same result with another reply
   abbrev same : Result
   same = resultOf o
 

@@ -1,5 +1,5 @@
--- 10 and 11 of a step, of its contract: an answer 10 comes with the access that was refused, at an address outside memory; a result that is not 10,
--- in a memory of 64 words or more, is the result with any words appended, up to 16,384 in all; and 11 is answered exactly where the step Stops.
+-- 10 and 11 of a step, by its contract. An answer 10 comes with the refused access, at an address outside memory. A result with another answer, in
+-- a memory of 64 words or more, is the result with any words appended, up to 16,384 in all. The answer is 11 exactly where the step Stops.
 use mathlib.Core.Path.{_≡_, sym, ap, _∙_}
 use mathlib.Core.Logic.{_↔_}
 use mathlib.Core.Bool.{true, false}
@@ -27,19 +27,19 @@ module _ (m : Machine) (h : length (m .regs) ≡ registers) (mem j : List ℕ) (
   pub step-witness : number r ≡ outside → Witness (length mem) (steps.step mem (begin (m .regs)))
   step-witness e = refusals.step-witness m mem j h (sym (ap (λ (o : Outcome). o .answer) step) ∙ e) .1
 
-  -- any other answer is that of the longer memory, with machine, journal, and memory but for the words appended, which are left as they are
+  -- the outcome with any other answer is the outcome in the longer memory, without the appended words, which stay unchanged
   pub step-longer : (number r ≡ outside → ⊥) → (x : List ℕ) → 64 ≤ length mem → length (mem ++ x) ≤ 16384
       → (r₂ : Reply) (mem₂ j₂ : List ℕ) → StepContract m (mem ++ x) j r₂ mem₂ j₂ → Same r₂ r mem₂ (mem′ ++ x) j₂ j′
   step-longer n x l k r₂ mem₂ j₂ c =
       same (rules.step m (mem ++ x) j) r₂ r mem₂ (mem′ ++ x) j₂ j′ c
       (ap (appended x) step ∙ sym (refusals.step-longer m mem x j h l k (λ e. n (ap (λ (o : Outcome). o .answer) step ∙ e))))
 
-  -- where (c) applies and Iptr is outside memory, 10 is answered
+  -- the answer is 10 where (c) applies and Iptr is outside memory
   pub step-fetch-outside : sizeBad mem j ≡ false → frame m j ≡ false → isHalted (m .regs) ≡ false → isIdle (m .regs) ≡ false → fetches (m .regs) ≡ true
       → length mem ≤ index (getD (m .regs) iptrReg 0) → number r ≡ outside
   step-fetch-outside s f k i c o = ap (λ (o : Outcome). o .answer) step ∙ refusals.step-fetch-outside m mem j h s f k i c o .0
 
-  -- 11 is answered exactly where the step comes to a place that Stops
+  -- the answer is 11 exactly where the step reaches a place that Stops
   pub step-stops : sizeBad mem j ≡ false → frame m j ≡ false → isHalted (m .regs) ≡ false → isIdle (m .regs) ≡ false → (number r ≡ stop) ↔ (stops (m .regs) mem ≡ true)
   step-stops s f k i =
       let told = rings.step-stops m mem j h s f k i in

@@ -1,5 +1,5 @@
--- THE HISTORY, over chains of the public functions' contracts (01, demand 3): from any fresh machine and any list of steps, ticks, takes, gives,
--- events and undos, some refused, each handed what the one before left. By the history theorem of the rules (crate history).
+-- The history over chains of contracts (01, What the contracts have to say: demand 3): from any fresh machine and any list of steps, ticks, takes,
+-- gives, events and undos, some refused. By the history theorem of the rules (T414.antt).
 use mathlib.Core.Path.{_≡_, refl, sym, ap, subst, _∙_}
 use mathlib.Core.List.{List, [], _∷_, _++_}
 use Prim.Native.Nat.{ℕ, zero, suc, _+_, _-_, _≤_}
@@ -41,7 +41,7 @@ chain-stands (made {s = s} {a = a} {acts = acts} r mem j h c) k =
     chain-stands c (stack a (eqb (number r) 0) k)
     ∙ ap (λ (o : Outcome). standing acts (after o) (stack a (eqb (o .answer) 0) k)) (met-is s r mem j a h)
 
--- ---- the reference without a journal is that of the crate history
+-- ---- `given` is `replay` of the machine t414
 
 worked-is : (c : Call) (x : Plain) (b : ℕ) → generic.after x (effect x b (work c x)) ≡ worked c x
 unfolding effect worked
@@ -55,14 +55,14 @@ given-is x (c ∷ k) = worked-is c (generic.replay t414 x k) _ ∙ ap (λ (y : P
 -- ---- after any chain from an empty journal
 
 module _ (s : Whole) (e : Emptied s) (acts : List (Act Call)) (numbers : List ℕ) (t : Whole) (c : Chain s acts numbers t) where
-  -- the accepted calls that are not undone, the last one first
+  -- the standing calls, the last call first
   abbrev pub stood : List Call
   stood = stands acts numbers []
 
   same-standing : standing acts s [] ≡ stood
   same-standing = sym (chain-stands c [])
 
-  -- registers and memory are what the rules give for them, without a journal
+  -- registers and memory are those that the rules give for the standing calls, without a journal
   pub chain-work : plain t ≡ given (plain s) stood
   chain-work =
       ap plain (chain-run c)
@@ -70,15 +70,15 @@ module _ (s : Whole) (e : Emptied s) (acts : List (Act Call)) (numbers : List �
       ∙ ap (λ (k : List Call). generic.replay t414 (plain s) k) same-standing
       ∙ given-is (plain s) stood
 
-  -- depth counts them
+  -- depth is the number of standing calls
   pub chain-depth : t .machine .depth ≡ length stood
   chain-depth = ap (λ (w : Whole). w .machine .depth) (chain-run c) ∙ history-counts s e acts ∙ ap (λ (k : List Call). length k) same-standing
 
-  -- all that shows, used and the journal's words in use too, is what they give when they alone are made, in order
+  -- the visible state, with used and the journal's words in use, is the one after the standing calls alone, made in order
   pub chain-history : shown t ≡ shown (run (inOrder stood) s)
   chain-history = ap shown (chain-run c) ∙ history s e acts ∙ ap (λ (k : List Call). shown (run (inOrder k) s)) same-standing
 
-  -- which are then all accepted
+  -- the standing calls, made in order, are all accepted
   pub chain-again : standing (inOrder stood) s [] ≡ stood
   chain-again =
       ap (λ (k : List Call). standing (inOrder k) s []) (sym same-standing) ∙ history-stands s e acts ∙ same-standing
@@ -128,7 +128,7 @@ moment {s} {t} {acts} {numbers} before after e c =
 
 -- ---- an undo where a call stands is accepted
 
--- an undo that is refused leaves the depth
+-- a refused undo keeps the depth
 undo-depth : (t : Whole) → (perform undo t .answer ≡ 0 → ⊥) → perform undo t .machine .depth ≡ t .machine .depth
 undo-depth t h = ap (λ (o : Outcome). o .machine .depth) (refused-undo (t .machine) (t .memory) (t .journal) .same h)
 
@@ -166,29 +166,29 @@ pub fresh-empties : (code mem j : List ℕ) (r : Reply) (mem₀ j₀ : List ℕ)
 fresh-empties code mem j r mem₀ j₀ f = subst (λ (o : Outcome). Emptied (after o)) (sym f) (from-fresh code mem j)
 
 module _ (code mem j : List ℕ) (r₀ : Reply) (mem₀ j₀ : List ℕ) (fresh : FreshContract code mem j r₀ mem₀ j₀) where
-  -- what fresh left
+  -- the state after fresh
   abbrev pub begun : Whole
   begun = left r₀ mem₀ j₀
 
   module _ (acts : List (Act Call)) (numbers : List ℕ) (t : Whole) (c : Chain begun acts numbers t) where
-    -- the accepted calls that have not been undone, the last one first
+    -- the standing calls, the last call first
     abbrev pub kept : List Call
     kept = stands acts numbers []
 
-    -- registers and all memory equal what the rules give for them, in order; depth is their number
+    -- registers and all memory are those that the rules give for the standing calls, in order; depth is their number
     pub public-history : (plain t ≡ given (plain begun) kept) × (t .machine .depth ≡ length kept)
     public-history =
         let e = fresh-empties code mem j r₀ mem₀ j₀ fresh in
         (chain-work begun e acts numbers t c, chain-depth begun e acts numbers t c)
 
-    -- used and the journal's words in use are those of a run in which they alone are made; in it none is refused
+    -- used and the journal's words in use are those of a run of the standing calls alone; in that run none is refused
     pub public-records : (shown t ≡ shown (run (inOrder kept) begun)) × (standing (inOrder kept) begun [] ≡ kept)
     public-records =
         let e = fresh-empties code mem j r₀ mem₀ j₀ fresh in
         (chain-history begun e acts numbers t c, chain-again begun e acts numbers t c)
 
-    -- undoing n calls where at least n stand: no undo is refused, and registers, memory, depth and used are those of a moment of the chain
-    -- when all but the last n stood
+    -- n undos where at least n calls stand: no undo is refused, and registers, memory, depth and used are those of a moment of the chain
+    -- when all standing calls but the last n stood
     pub public-undone : (n : ℕ) → n ≤ length kept → (others : List ℕ) (u : Whole) → Chain t (replicate n undo) others u
         → (others ≡ replicate n 0)
         × (m : Moment begun acts numbers t) × (stands (m .calls-before) (m .numbers-before) [] ≡ drop n kept)

@@ -15,7 +15,7 @@ use Rattle.laws.proofs.Touched.{length-olds, length-record}
 
 -- ---- pairs
 
--- each word with what the memory m holds there
+-- each index with the word of the memory m there
 abbrev pub pairsOf : List ℕ → List ℕ → List (ℕ × ℕ)
 pairsOf m [] = []
 pairsOf m (k ∷ ks) = (k, getD m k 0) ∷ pairsOf m ks

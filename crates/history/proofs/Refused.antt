@@ -1,4 +1,4 @@
--- Refusing cleanly: a refused call hands byte 0 back and leaves registers, depth, used, memory and journal as they were; after a refused fresh
+-- Clean refusals: a refused call returns byte 0 and leaves registers, depth, used, memory and journal as they were; after a refused fresh
 -- the machine is all 0.
 use mathlib.Core.Path.{_≡_, ap, _∙_}
 use mathlib.Core.List.{List}

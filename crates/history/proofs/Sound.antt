@@ -1,5 +1,5 @@
--- The records of our calls are sound: registers stay 45, the last record gives registers and memory before it back, and the checks of the
--- journal never stand before the undo of an accepted call.
+-- The records of our calls are sound: registers stay 45, the last record restores registers and memory before it, and the checks of the
+-- journal never refuse the undo of an accepted call.
 use mathlib.Core.Path.{_≡_, refl}
 use mathlib.Core.Bool.{Bool, true, false, _||_}
 use mathlib.Core.List.{List, _++_}
@@ -37,7 +37,7 @@ fine-work (spec.take c) x h = fine-take (x .mem) c (λ k a z kind address. omega
 fine-work (give c byte) x h = fine-give (x .mem) c byte (λ k a z kind address. omega arith) (fine-begin (x .regs) h)
 fine-work event x h = fine-event (λ k a z kind address. omega arith) (fine-begin (x .regs) h)
 
--- what an accepted effect is
+-- the parts of an accepted effect
 module _ (x y : Plain) (w : List ℕ) (b byte : ℕ) (k : Work) (e : effect x byte k ≡ accepted y w b) where
   effect-is : (y ≡ record { regs = k .regs; mem = stores (x .mem) (k .stored) }) × (w ≡ recordOf (x .mem) (x .regs) (places x k))
   unfolding effect ifEq
@@ -49,7 +49,7 @@ module _ (x y : Plain) (w : List ℕ) (b byte : ℕ) (k : Work) (e : effect x by
       go true q = (cc, cc)
       go false q = (cc, cc)
 
--- ---- a record behind any words gives registers and memory back
+-- ---- a record behind any words restores registers and memory
 
 -- the record of the work k on x
 abbrev entry : Plain → Work → List ℕ
@@ -70,7 +70,7 @@ unrecord-last x k h front j t =
 
 -- ---- the checks before an undo
 
--- 46 words a record: the frame stays good
+-- a record has at least 46 words, so the bounds of the journal stay good
 frame-good : (size depth used n : ℕ) → boundsBad size depth used ≡ false → recordLength 0 ≤ n → used + n ≤ size → boundsBad size (depth + 1) (used + n) ≡ false
 unfolding boundsBad
 frame-good size depth used n e l f = go (ltb size used) (ltb used (recordLength 0 * depth)) refl e
@@ -81,7 +81,7 @@ frame-good size depth used n e l f = go (ltb size used) (ltb used (recordLength 
     go false false q z =
         rw (le-ltb size (used + n) f, le-ltb (used + n) (recordLength 0 * (depth + 1)) (omega (arith, ltb-false used (recordLength 0 * depth) q)))
 
--- what a guard that lets pass tells
+-- the facts of a guard that does not refuse
 guard-told : (a : Act Call) (x : Plain) (size depth used : ℕ) → guard a x size depth used ≡ none
     → ((memorySizeBad (length (x .mem)) || journalSizeBad size) ≡ false) × (boundsBad size depth used ≡ false)
 unfolding guard

@@ -1,6 +1,6 @@
--- THE HISTORY THEOREM of our calls (01, What the contracts have to say: demand 3). From fresh, after any sequence of steps, ticks, link bytes,
--- events and undos, the state is what the accepted calls that are not undone give, in order; undoing n calls gives back registers, memory,
--- depth and used as before them. For any memory, journal and code, and any journal contents.
+-- The history theorem of our calls (01, What the contracts have to say: demand 3). From fresh, after any sequence of steps, ticks, takes, gives,
+-- events and undos, the state is the one after the standing calls, made in order; n undos restore registers, memory, depth and used as before
+-- the last n standing calls. For any memory, journal and code.
 use mathlib.Core.Path.{_≡_, refl, sym, ap, _∙_}
 use mathlib.Core.Bool.{Bool, true, false}
 use mathlib.Core.List.{List, [], _++_}
@@ -23,7 +23,7 @@ use Rattle.history.proofs.Invariant.{undo-law}
 use Rattle.history.proofs.Sound.{sound, Ok}
 use Rattle.history.proofs.Calls.{view, told, performs, kept, kept-run, same-run, same-standing}
 
--- 45 registers and an empty journal: what fresh and clear leave
+-- 45 registers and an empty journal, as after fresh and clear
 pub record Emptied (s : Whole) : Type 0 where
   pub count : length (s .machine .regs) ≡ registers
   pub depth : s .machine .depth ≡ 0
@@ -33,7 +33,7 @@ abbrev shownOf : Seen Plain → Shown
 shownOf t = record { registers = t .core .regs; memory = t .core .mem; depth = t .depth; used = t .used; records = t .words }
 
 module _ (s : Whole) (i : Emptied s) (acts : List (Act Call)) where
-  -- the accepted calls that are not undone, the last one first
+  -- the standing calls, the last call first
   abbrev pub left : List Call
   left = standing acts s []
 
@@ -49,7 +49,7 @@ module _ (s : Whole) (i : Emptied s) (acts : List (Act Call)) where
   standing-is : (more : List (Act Call)) → generic.standing t414 more (generic.empty t414 start (s .journal)) [] ≡ standing more s []
   standing-is more = ap (λ (t : State Plain). generic.standing t414 more t []) (sym from-empty) ∙ same-standing more s [] (i .count)
 
-  -- the state is what the accepted calls that are not undone give, in order
+  -- the visible state is the one after the standing calls, made in order
   pub history : shown (run acts s) ≡ shown (run (inOrder left) s)
   history =
       ap (λ (t : State Plain). shownOf (seen t)) (sym (run-is acts))
@@ -57,7 +57,7 @@ module _ (s : Whole) (i : Emptied s) (acts : List (Act Call)) where
       ∙ ap (λ (k : List Call). shownOf (seen (generic.run t414 (inOrder k) (generic.empty t414 start (s .journal))))) (standing-is acts)
       ∙ ap (λ (t : State Plain). shownOf (seen t)) (run-is (inOrder left))
 
-  -- which are then all accepted
+  -- the standing calls, made in order, are all accepted
   pub history-stands : standing (inOrder left) s [] ≡ left
   history-stands =
       sym (standing-is (inOrder left))
@@ -65,14 +65,14 @@ module _ (s : Whole) (i : Emptied s) (acts : List (Act Call)) where
       ∙ any.history-stands t414 Ok sound start (i .count) (s .journal) acts
       ∙ standing-is acts
 
-  -- registers and memory, without a journal: each call's work on what the calls before it left
+  -- registers and memory are those after the work of the standing calls, without a journal
   pub history-work : view (run acts s) .core ≡ generic.replay t414 start left
   history-work =
       ap (λ (t : State Plain). t .core) (sym (run-is acts))
       ∙ history-core t414 Ok sound start (i .count) (s .journal) acts
       ∙ ap (λ (k : List Call). generic.replay t414 start k) (standing-is acts)
 
-  -- depth counts them
+  -- depth is the number of standing calls
   pub history-counts : run acts s .machine .depth ≡ length left
   history-counts =
       ap (λ (t : State Plain). t .depth) (sym (run-is acts))
@@ -83,7 +83,7 @@ module _ (s : Whole) (i : Emptied s) (acts : List (Act Call)) where
   undos-are n =
       ap (λ (t : State Plain). generic.run t414 (replicate n undo) t) (run-is acts) ∙ same-run (replicate n undo) (run acts s) (kept-run acts s (i .count))
 
-  -- undoing n calls, where that many stand, gives back what showed before them: at a moment of the same sequence when all but the last n of
+  -- n undos, where at least n calls stand, restore the visible state before them: of a moment of the same sequence when all but the last n of
   -- the calls that stand now stood
   pub undone : (n : ℕ) → n ≤ run acts s .machine .depth
       → (then : List (Act Call)) × (rest : List (Act Call)) × (acts ≡ then ++ rest)
@@ -98,7 +98,7 @@ module _ (s : Whole) (i : Emptied s) (acts : List (Act Call)) where
         sym (standing-is (t .0)) ∙ t .4 ∙ ap (λ (k : List Call). drop n k) (standing-is acts),
       )
 
--- ---- it holds from fresh, and from clear
+-- ---- the theorem holds from fresh, and from clear
 
 Empty : Outcome → Type 0
 Empty o = (o .machine .depth ≡ 0) × (o .machine .used ≡ 0)
@@ -122,15 +122,15 @@ from-clear m mem j h e = record { count = kept-clear m mem j h .count; depth = r
 -- ---- 01's sentence
 
 module _ (code mem j : List ℕ) (acts : List (Act Call)) where
-  -- what fresh leaves
+  -- the state after fresh
   abbrev pub begun : Whole
   begun = after (fresh code mem j)
 
-  -- the state equals what the accepted calls that are not undone give, in order
+  -- the visible state is the one after the standing calls, made in order
   pub fresh-history : shown (run acts begun) ≡ shown (run (inOrder (standing acts begun [])) begun)
   fresh-history = history begun (from-fresh code mem j) acts
 
-  -- undoing n calls gives back registers, memory, depth and used as before them
+  -- n undos restore registers, memory, depth and used as before the last n standing calls
   pub fresh-undone : (n : ℕ) → n ≤ run acts begun .machine .depth
       → (then : List (Act Call)) × (rest : List (Act Call)) × (acts ≡ then ++ rest)
       × (shown (run (replicate n undo) (run acts begun)) ≡ shown (run then begun))
@@ -139,7 +139,7 @@ module _ (code mem j : List ℕ) (acts : List (Act Call)) where
 
 -- ---- the law of undo: from any machine, with any journal
 
--- an outcome that is told as an accepted undo
+-- an outcome that the machine t414 sees as an accepted undo
 told-done : (o : Outcome) (t : State Plain) → told o ≡ record { answer = done 0; state = t } → (o .answer ≡ 0) × (view (after o) ≡ t)
 told-done o t e = go (eqb (o .answer) 0) refl (ap (λ (d : Done Plain). d .answer) e)
   where
@@ -152,7 +152,7 @@ same-machine m m′ p q r =
     let e : _≡_ {A = Machine} (record { regs = m .regs; depth = m .depth; used = m .used }) (record { regs = m′ .regs; depth = m′ .depth; used = m′ .used }) = cc in
     e
 
--- a call that is accepted, then undo: it is accepted too, and registers, depth, used and memory are as before both
+-- an undo after an accepted call is accepted, and restores registers, depth, used and memory as before the call
 pub undo-gives-back : (s : Whole) (c : Call) → length (s .machine .regs) ≡ registers → perform (call c) s .answer ≡ 0
     → (perform undo (after (perform (call c) s)) .answer ≡ 0)
     × (perform undo (after (perform (call c) s)) .machine ≡ s .machine)

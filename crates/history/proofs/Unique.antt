@@ -1,5 +1,5 @@
 -- One answer only: two results that meet the contract of a public function from the same inputs are the same in answer, byte, registers, depth,
--- used and every lent word. And some result meets it.
+-- used and every lent word. And some result meets the contract.
 use mathlib.Core.Path.{_≡_, ap}
 use mathlib.Core.List.{List}
 use Prim.Native.Nat.{ℕ, _≤_}
@@ -27,7 +27,7 @@ same o r r′ mem mem′ j j′ a b =
       journal = one .2;
     }
 
--- ---- no second answer meets the contract
+-- ---- no second result meets the contract
 
 pub fresh-unique : (code : List ℕ) → OneAnswer (FreshContract code)
 fresh-unique code mem j r₁ r₂ mem₁ mem₂ j₁ j₂ a b = same (rules.fresh code mem j) r₁ r₂ mem₁ mem₂ j₁ j₂ a b
@@ -54,9 +54,9 @@ module _ (m : Machine) where
   pub clear-unique : OneAnswer (ClearContract m)
   clear-unique mem j r₁ r₂ mem₁ mem₂ j₁ j₂ a b = same (rules.clear m mem j) r₁ r₂ mem₁ mem₂ j₁ j₂ a b
 
--- ---- and some answer does: 01's numbers are all that the rules give
+-- ---- some result meets the contract: the rules give no number but 01's
 
--- the reply that an outcome tells
+-- the reply of an outcome
 abbrev pub replyOf : Outcome → Reply
 replyOf o = record { machine = o .machine; answer = answerOf (o .answer); byte = o .byte }
 
@@ -77,7 +77,7 @@ fresh-total code mem j =
     let o = rules.fresh code mem j in
     record { reply = replyOf o; memory = o .memory; journal = o .journal; meets = told o (kept-fresh code mem j .known) }
 
--- of any machine of 45 registers
+-- for any machine of 45 registers
 module _ (m : Machine) (h : length (m .regs) ≡ registers) where
   pub step-total : Total (StepContract m)
   step-total mem j =

@@ -34,8 +34,8 @@ answers (a ∷ acts) s = perform a s .answer ∷ answers acts (after (perform a 
 abbrev pub facts : Whole → List ℕ
 facts s = getD (s .machine .regs) areg 0 ∷ s .machine .depth ∷ s .machine .used ∷ []
 
--- an undo of nothing; a take from a link that does not move, and from no link; a tick, undone; a byte given, and a second one that is not
--- taken; a step; a step that does not fit; two undos and a third one; two steps and a third one
+-- an undo of nothing; a take from a link that is not moving, and from no link; a tick, undone; a byte given, and a second byte, refused;
+-- a step; a step whose record does not fit; three undos; three steps
 abbrev pub acts : List (Act Call)
 acts =
     undo

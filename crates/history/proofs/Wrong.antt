@@ -1,6 +1,6 @@
--- Wrong answers ruled out (01, What the contracts have to say): no function that refuses always, gives one fixed answer, leaves the machine as it
--- was, undoes nothing, or after a first step only moves Iptr, meets the contract; of eight functions with one of the last two in its place demand 3
--- does not hold, nor with a step that invents depth or used. Each by states on which the rules are computed.
+-- Wrong functions ruled out (01, What the contracts have to say). No function that refuses always, gives one fixed answer, leaves the machine as it
+-- was, undoes nothing, or after a first step only moves Iptr, meets the contract. Demand 3 does not hold of eight functions with an undo that does
+-- nothing, a step that then only moves Iptr, or a step that invents depth or used. Each is shown on states for which the rules are computed.
 use mathlib.Core.Path.{_≡_, refl, sym, ap, _∙_}
 use mathlib.Core.List.{List, [], _∷_}
 use Prim.Native.Nat.{ℕ, _+_}
@@ -70,7 +70,7 @@ Rule = Machine → List ℕ → List ℕ → Outcome
 abbrev at : Rule → Whole → Outcome
 at rule s = rule (s .machine) (s .memory) (s .journal)
 
--- what the rules say there: the answer, and a register before the call and after it
+-- the rules at a state, computed: the answer, and a register before the call and after it
 abbrev Says : Rule → Whole → ℕ → ℕ → ℕ → ℕ → Type 0
 Says rule s n k v v′ = (at rule s .answer ≡ n) × (getD (s .machine .regs) k 0 ≡ v) × (getD (at rule s .machine .regs) k 0 ≡ v′)
 
@@ -159,7 +159,7 @@ undo-answers = two-answers rules.undo second second45 (computed .7 .0) (computed
 pub clear-answers : TwoAnswers ClearContract
 clear-answers = two-answers rules.clear second second45 (computed .8) (computed-nowhere .6)
 
--- fresh is handed no machine
+-- fresh takes no machine
 pub fresh-answers : TwoAnswers (λ m. FreshContract code)
 fresh-answers =
     two-answers freshRule (record { machine = begun .machine; memory = lent; journal = paper }) begun45 (computed .10) (computed-nowhere .7)
@@ -214,7 +214,7 @@ step-moves-iptr f w o =
     ∙ computed .1 .2 in
     omega (arith, e)
 
--- ---- the same two fall to demand 3, over a sequence from fresh
+-- ---- the last two do not satisfy demand 3, by a sequence from fresh
 
 -- fresh, and after one step
 abbrev start : Whole
@@ -223,7 +223,7 @@ start = after (fresh code lent paper)
 abbrev next : Whole
 next = after (at rules.step start)
 
--- both steps are accepted, A is 0, 1, and the rules give 2 for two steps
+-- both steps are accepted; A is 0, then 1; the rules give 2 for two steps
 computed-start : Says rules.step start 0 areg 0 1
     × (start .machine .depth ≡ 0)
     × (next .machine .depth ≡ 1)
@@ -258,7 +258,7 @@ module _ (F : Functions) (f : MeetsFresh (F .fresh)) where
   abbrev first : Result
   first = made F (call step) there
 
-  -- an invented depth or used: where it accepts what the rules accept, one step from fresh shows it
+  -- an invented depth or used: where the function accepts every step that the rules accept, one step from fresh shows it
   pub step-invented : Accepts (F .step) → InventsCounts (F .step) → Reversible F → ⊥
   unfolding ran answers stands run
   step-invented a w d =
@@ -269,14 +269,14 @@ module _ (F : Functions) (f : MeetsFresh (F .fresh)) where
       w (there .machine) there45 (there .memory) (there .journal) accepted
       (ap (λ (x : Shown). x .depth) same ∙ counted .0, ap (λ (x : Shown). x .used) same ∙ counted .1)
 
-  -- and step where no record stands; the others are any functions
+  -- and of which step meets its contract where no record stands; the others are any functions
   module _ (p : FirstProperly (F .step)) where
     first-is : outcomeOf (first .reply) (first .memory) (first .journal) ≡ at rules.step start
     first-is =
         p (there .machine) there45 (there .memory) (there .journal) (ap (λ (w : Whole). w .machine .depth) there-is ∙ computed-start .1)
         ∙ ap (λ (w : Whole). at rules.step w) there-is
 
-    -- it is accepted, and leaves what the rules leave
+    -- the first step is accepted, and leaves the state that the rules leave
     first-accepted : number (first .reply) ≡ 0
     first-accepted = ap (λ (o : Outcome). o .answer) first-is ∙ computed-start .0 .0
 
@@ -289,7 +289,7 @@ module _ (F : Functions) (f : MeetsFresh (F .fresh)) where
     aregs : (aregOf there ≡ 0) × (aregOf (handsOn first) ≡ 1)
     aregs = (ap aregOf there-is ∙ computed-start .0 .1, ap aregOf first-leaves ∙ computed-start .0 .2)
 
-    -- an undo that does nothing: it must be accepted, so that no call stands; and A is still 1, not 0
+    -- an undo that does nothing: it must be accepted, so that no call stands; but A is still 1, not 0
     pub undo-nothing : LeavesRegisters (F .undo) → Reversible F → ⊥
     unfolding ran answers stands given
     undo-nothing w d =
@@ -305,8 +305,8 @@ module _ (F : Functions) (f : MeetsFresh (F .fresh)) where
         ∙ aregs .0 in
         omega (arith, e)
 
-    -- a step that then only moves Iptr: where it is accepted, two steps stand, and A is still 1, not 2; where it is refused, one stands, but Iptr
-    -- is not what that one gives
+    -- a step that then only moves Iptr: where it is accepted, two steps stand, but A is still 1, not 2; where it is refused, one step stands, but
+    -- Iptr is not the one that this step gives
     pub step-iptr-moved : ThenMovesIptr (F .step) → MovesOn (F .step) → Reversible F → ⊥
     unfolding ran answers stands given
     step-iptr-moved w g d = cases-eq (number (again .reply)) 0 accepted refused
@@ -342,7 +342,7 @@ module _ (F : Functions) (f : MeetsFresh (F .fresh)) where
             n
             (ap (λ (x : Plain). getD (x .regs) iptrReg 0) (state ∙ sym before))
 
--- ---- and there are such functions
+-- ---- such functions exist
 
 -- an undo that is accepted and changes nothing
 abbrev idleUndo : Function
@@ -361,7 +361,7 @@ iptrStep m mem j =
       journal = j;
     }))
 
--- a step that answers as the rules do, and leaves all as it was, depth and used too
+-- a step that answers as the rules do and changes nothing, not even depth and used
 abbrev idleStep : Function
 idleStep m mem j = resultOf (rules.refused (rules.step m mem j .answer) m mem j)
 

@@ -1,6 +1,6 @@
--- Sequences of public calls, each handed what the one before left, told by their contracts alone.
+-- Chains: sequences of public calls by their contracts alone, each call from the state that the call before left.
 use mathlib.Core.Path.{_≡_}
-use mathlib.Core.Bool.{Bool}
+use mathlib.Core.Bool.{}
 use mathlib.Core.List.{List, [], _∷_, _++_}
 use Prim.Native.Nat.{ℕ}
 use lib.Dec.{eqb}
@@ -12,7 +12,7 @@ use Rattle.history.specs.T414.{Call, step, tick, give, event, Whole, sta
 use Rattle.history.specs.T414 as calls
 use Rattle.history.specs.Contracts.{StepContract, TickContract, TakeContract, GiveContract, EventContract, UndoContract, number}
 
--- the contract of a call that a sequence can have: any but fresh and clear (01, What the contracts have to say: demand 3; DECISIONS 52)
+-- the contract of a call of a chain: any but fresh and clear (01, What the contracts have to say: demand 3; DECISIONS 52)
 abbrev pub Met : Act Call → Whole → Reply → List ℕ → List ℕ → Type 0
 Met (call step) s r mem j = StepContract (s .machine) (s .memory) (s .journal) r mem j
 Met (call tick) s r mem j = TickContract (s .machine) (s .memory) (s .journal) r mem j
@@ -21,25 +21,25 @@ Met (call (give c byte)) s r mem j = GiveContract c byte (s .machine) (s .memory
 Met (call event) s r mem j = EventContract (s .machine) (s .memory) (s .journal) r mem j
 Met undo s r mem j = UndoContract (s .machine) (s .memory) (s .journal) r mem j
 
--- what a call leaves for the next one: the machine of its reply, and the lent words (01, What the contracts have to say: demand 3)
+-- the state that a call leaves: the machine of its reply, and the lent words (01, What the contracts have to say: demand 3)
 abbrev pub left : Reply → List ℕ → List ℕ → Whole
 left r mem j = record { machine = r .machine; memory = mem; journal = j }
 
--- `Chain s acts numbers t`: from s the calls were made one after the other, they answered these numbers, and the last one left t
+-- `Chain s acts numbers t`: the calls acts, made one after the other from s, answer these numbers, and the last call leaves t
 -- (01, What the contracts have to say: demand 3)
 pub data Chain : Whole → List (Act Call) → List ℕ → Whole → Type 0 where
   ended : {s : Whole} → Chain s [] [] s
   made : {s t : Whole} {a : Act Call} {acts : List (Act Call)} {numbers : List ℕ} (r : Reply) (mem j : List ℕ)
       → Met a s r mem j → Chain (left r mem j) acts numbers t → Chain s (a ∷ acts) (number r ∷ numbers) t
 
--- the calls that were accepted and not undone, by the numbers answered: the last one first, where those of k stood before
+-- the standing calls: accepted and not undone, by the numbers answered. The last call first; the calls of k stood before
 -- (01, What the contracts have to say: demand 3)
 unfoldable pub stands : List (Act Call) → List ℕ → List Call → List Call
 stands (a ∷ acts) (n ∷ numbers) k = stands acts numbers (stack a (eqb n 0) k)
 stands [] numbers k = k
 stands (a ∷ acts) [] k = k
 
--- a moment of a chain, to which undos lead back: the calls before it, what was left then, and the calls after it
+-- a moment of a chain, to which undos lead back: the calls before it, the state then, and the calls after it
 -- (01, What the contracts have to say: demand 3)
 pub record Moment (s : Whole) (acts : List (Act Call)) (numbers : List ℕ) (t : Whole) : Type 0 where
   pub calls-before : List (Act Call)
@@ -52,13 +52,13 @@ pub record Moment (s : Whole) (acts : List (Act Call)) (numbers : List ℕ) (t :
   pub all-calls : acts ≡ calls-before ++ calls-after
   pub all-numbers : numbers ≡ numbers-before ++ numbers-after
 
--- ---- what the rules give for some calls, without a journal
+-- ---- the rules without a journal
 
--- registers and memory after one call's work; a refused one changes nothing (01, Answers by number)
+-- registers and memory after the work of a call; a refused call changes nothing (01, Answers by number)
 unfoldable pub worked : Call → Plain → Plain
 worked c x = ifEq (work c x .answer) 0 (record { regs = work c x .regs; mem = stores (x .mem) (work c x .stored) }) x
 
--- after the calls of k in order, the last one first in the list (01, What the contracts have to say: demand 3)
+-- registers and memory after the calls of k in order; k has the last call first (01, What the contracts have to say: demand 3)
 unfoldable pub given : Plain → List Call → Plain
 given x [] = x
 given x (c ∷ k) = worked c (given x k)

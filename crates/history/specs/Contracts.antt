@@ -1,5 +1,5 @@
--- The contracts of the eight public functions (crates/t414), each as one definition: from a machine, memory and journal to a reply, and memory
--- and journal as they then are. Each is the whole `ensures` of its function; no function has a `requires`.
+-- The contracts of the eight public functions (crates/t414), each as one definition: a relation of the machine, memory and journal before the
+-- call with the reply, memory and journal after it. Each is the whole `ensures` of its function; no function has a `requires`.
 use mathlib.Core.Path.{_≡_}
 use mathlib.Core.List.{List}
 use Prim.Native.Nat.{ℕ}
@@ -8,7 +8,7 @@ use Rattle.rules.specs.Calls as rules
 use Rattle.rules.specs.declared.Machine.{Machine}
 use Rattle.rules.specs.declared.Reply.{Reply}
 
--- a contract: of the memory and journal handed in, and the reply, memory and journal that come out (01, What the contracts have to say)
+-- a contract: of memory and journal before the call, and the reply, memory and journal after it (01, What the contracts have to say)
 abbrev pub Contract : Type 1
 Contract = (mem j : List ℕ) (r : Reply) (mem′ j′ : List ℕ) → Type 0
 
@@ -44,7 +44,7 @@ UndoContract m mem j r mem′ j′ = outcomeOf r mem′ j′ ≡ rules.undo m me
 abbrev pub ClearContract : Machine → Contract
 ClearContract m mem j r mem′ j′ = outcomeOf r mem′ j′ ≡ rules.clear m mem j
 
--- ---- what the theorems say of them
+-- ---- properties of contracts, for the theorems
 
 -- two results of a call are the same: answer, byte, registers, depth, used and every lent word (01, What the contracts have to say)
 pub record Same (r r′ : Reply) (mem mem′ j j′ : List ℕ) : Type 0 where
@@ -56,7 +56,7 @@ pub record Same (r r′ : Reply) (mem mem′ j j′ : List ℕ) : Type 0 where
   pub memory : mem ≡ mem′
   pub journal : j ≡ j′
 
--- no two results meet the contract: any two that meet it are the same (01, What the contracts have to say)
+-- only one result meets the contract: any two that meet it are the same (01, What the contracts have to say)
 abbrev pub OneAnswer : Contract → Type 0
 OneAnswer C = (mem j : List ℕ) (r₁ r₂ : Reply) (mem₁ mem₂ j₁ j₂ : List ℕ) → C mem j r₁ mem₁ j₁ → C mem j r₂ mem₂ j₂ → Same r₁ r₂ mem₁ mem₂ j₁ j₂
 
@@ -67,7 +67,7 @@ pub record Answered (C : Contract) (mem j : List ℕ) : Type 0 where
   pub journal : List ℕ
   pub meets : C mem j reply memory journal
 
--- some result meets it, from any memory and journal (01, What the contracts have to say: from any input)
+-- some result meets the contract, from any memory and journal (01, What the contracts have to say: from any input)
 abbrev pub Total : Contract → Type 0
 Total C = (mem j : List ℕ) → Answered C mem j
 
@@ -75,7 +75,7 @@ Total C = (mem j : List ℕ) → Answered C mem j
 abbrev pub number : Reply → ℕ
 number r = numberOf (r .answer)
 
--- byte 0, and all as it was before the call (01, Answers by number)
+-- byte 0, and machine, memory and journal as before the call (01, Answers by number)
 pub record Unchanged (m : Machine) (mem j : List ℕ) (r : Reply) (mem′ j′ : List ℕ) : Type 0 where
   pub byte : r .byte ≡ 0
   pub registers : r .machine .regs ≡ m .regs
@@ -84,6 +84,6 @@ pub record Unchanged (m : Machine) (mem j : List ℕ) (r : Reply) (mem′ j′ :
   pub memory : mem′ ≡ mem
   pub journal : j′ ≡ j
 
--- a refused call leaves all as it was; m is the machine before it, for fresh the one that is all 0 (01, Answers by number)
+-- a refused call changes nothing; m is the machine before it, for fresh the machine that is all 0 (01, Answers by number)
 abbrev pub RefusesCleanly : Machine → Contract → Type 0
 RefusesCleanly m C = (mem j : List ℕ) (r : Reply) (mem′ j′ : List ℕ) → C mem j r mem′ j′ → (number r ≡ 0 → ⊥) → Unchanged m mem j r mem′ j′

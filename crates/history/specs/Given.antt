@@ -1,4 +1,4 @@
--- The first number of a list whose condition holds (01, Answers by number), as a relation. 0 is given where none holds.
+-- The first number of a list whose condition holds, or 0 where none holds (01, Answers by number), as a relation.
 use mathlib.Core.Path.{_≡_}
 use mathlib.Core.Logic.{_↔_}
 use mathlib.Core.Bool.{Bool, true, false}

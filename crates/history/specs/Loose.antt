@@ -1,5 +1,5 @@
--- Contracts loosened by one thing: all is said but of the memory, or of the journal, and so on. Each then has two results: nothing that a
--- contract says follows from the rest (01, What the contracts have to say).
+-- Contracts without one part: without the memory, without the journal, and so on. Each such contract has two results, so no part of a
+-- contract follows from the others (01, What the contracts have to say).
 use mathlib.Core.Path.{_≡_}
 use mathlib.Core.List.{List}
 use Prim.Native.Nat.{ℕ}
@@ -9,38 +9,38 @@ use Rattle.rules.specs.declared.Answer.{Answer}
 use Rattle.history.specs.Contracts.{Contract, Same}
 use Rattle.history.specs.Functions.{Result}
 
--- of the memory afterwards nothing is said: some memory in its place meets the contract (01, What the contracts have to say)
+-- the contract without the memory after the call: some memory in its place meets the contract (01, What the contracts have to say)
 abbrev pub WithoutMemory : Contract → Contract
 WithoutMemory C mem j r mem′ j′ = (x : List ℕ) × C mem j r x j′
 
--- of the journal afterwards (01, What the contracts have to say)
+-- without the journal after the call (01, What the contracts have to say)
 abbrev pub WithoutJournal : Contract → Contract
 WithoutJournal C mem j r mem′ j′ = (x : List ℕ) × C mem j r mem′ x
 
--- of the registers (01, What the contracts have to say)
+-- without the registers (01, What the contracts have to say)
 abbrev pub WithoutRegisters : Contract → Contract
 WithoutRegisters C mem j r mem′ j′ =
     (x : List ℕ) × C mem j (record { machine = machineOf x (r .machine .depth) (r .machine .used); answer = r .answer; byte = r .byte }) mem′ j′
 
--- of depth (01, What the contracts have to say)
+-- without depth (01, What the contracts have to say)
 abbrev pub WithoutDepth : Contract → Contract
 WithoutDepth C mem j r mem′ j′ =
     (x : ℕ) × C mem j (record { machine = machineOf (r .machine .regs) x (r .machine .used); answer = r .answer; byte = r .byte }) mem′ j′
 
--- of used (01, What the contracts have to say)
+-- without used (01, What the contracts have to say)
 abbrev pub WithoutUsed : Contract → Contract
 WithoutUsed C mem j r mem′ j′ =
     (x : ℕ) × C mem j (record { machine = machineOf (r .machine .regs) (r .machine .depth) x; answer = r .answer; byte = r .byte }) mem′ j′
 
--- of the byte (01, What the contracts have to say)
+-- without the byte (01, What the contracts have to say)
 abbrev pub WithoutByte : Contract → Contract
 WithoutByte C mem j r mem′ j′ = (x : ℕ) × C mem j (record { machine = r .machine; answer = r .answer; byte = x }) mem′ j′
 
--- of the answer (01, What the contracts have to say)
+-- without the answer (01, What the contracts have to say)
 abbrev pub WithoutAnswer : Contract → Contract
 WithoutAnswer C mem j r mem′ j′ = (x : Answer) × C mem j (record { machine = r .machine; answer = x; byte = r .byte }) mem′ j′
 
--- two results that differ meet the contract; a function could leave either, since no length differs (01, What the contracts have to say)
+-- two different results meet the contract; their lengths agree, so a function could return either (01, What the contracts have to say)
 pub record TwoResults (C : Contract) (mem j : List ℕ) : Type 0 where
   pub one : Result
   pub other : Result
@@ -49,7 +49,7 @@ pub record TwoResults (C : Contract) (mem j : List ℕ) : Type 0 where
   pub lengths : (length (one .reply .machine .regs) ≡ length (other .reply .machine .regs)) × (length (one .memory) ≡ length (other .memory)) × (length (one .journal) ≡ length (other .journal))
   pub differ : Same (one .reply) (other .reply) (one .memory) (other .memory) (one .journal) (other .journal) → ⊥
 
--- each thing that the contract says is needed: without it there are two results (01, What the contracts have to say)
+-- every part of the contract is needed: without it there are two results (01, What the contracts have to say)
 pub record AllNeeded (C : Contract) (mem j : List ℕ) : Type 0 where
   pub memory : TwoResults (WithoutMemory C) mem j
   pub journal : TwoResults (WithoutJournal C) mem j

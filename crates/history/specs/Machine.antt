@@ -1,5 +1,5 @@
--- Calls on a state with a journal, over any machine: a core (registers, memory), calls, and what a call does to the core.
--- T414.antt makes our calls of it.
+-- Calls on a state with a journal, for any machine: a core (registers, memory), calls, and the effect of a call on the core.
+-- T414.antt gives our calls as such a machine.
 use mathlib.Core.Path.{_≡_}
 use mathlib.Core.Bool.{Bool, true, false}
 use mathlib.Core.List.{List, [], _∷_, _++_, map, reverse}
@@ -9,7 +9,7 @@ use lib.Dec.{ltb, eqb}
 use lib.ListN.{length, take, drop}
 use lib.Seq.{sets}
 
--- what a call does to the core: refused with its number, or the new core, the record that undoes it, and a byte
+-- the effect of a call on the core: refused with a number, or the new core, the record that undoes the call, and a byte
 -- (01, Answers by number; 01, The journal)
 pub data Effect (C : Type 0) : Type 0 where
   refused : ℕ → Effect C
@@ -42,14 +42,14 @@ pub data Answer : Type 0 where
   no-way : ℕ → Answer
   done : ℕ → Answer
 
--- what a call comes to: its answer, and the state after it (01, Answers by number)
+-- the outcome of a call: its answer, and the state after it (01, Answers by number)
 pub record Done (C : Type 0) : Type 0 where
   pub answer : Answer
   pub state : State C
 
 -- the number of JournalBad (01, Answers by number)
-abbrev pub journalSizeBad : ℕ
-journalSizeBad = 4
+abbrev pub journalBad : ℕ
+journalBad = 4
 
 -- the number of NothingToUndo (01, Answers by number)
 abbrev pub nothingToUndo : ℕ
@@ -70,14 +70,14 @@ module _ {C : Type 0} where
         state = record { core = y; depth = s .depth + 1; used = s .used + length w; journal = sets (s .journal) (s .used) w };
       }
 
-  -- what a call's effect comes to: its own refusal comes before 12 (01, Answers by number)
+  -- commits the effect of a call, or refuses: the refusal of the effect comes before 12 (01, Answers by number)
   abbrev pub settle : State C → Effect C → Done C
   settle s (refused n) = record { answer = no-way n; state = s }
   settle s (accepted y w b) = push s y w b (ltb (length (s .journal)) (s .used + length w))
 
-  -- the last record taken back, no journal word written; 4 where that record is bad (01, The journal; 01, Answers by number)
+  -- undoes the last record, writes no journal word; 4 where the record is bad (01, The journal; 01, Answers by number)
   abbrev pub pop : State C → Option (C × ℕ) → Done C
-  pop s none = record { answer = no-way journalSizeBad; state = s }
+  pop s none = record { answer = no-way journalBad; state = s }
   pop s (some p) =
       record { answer = done 0; state = record { core = p .0; depth = s .depth - 1; used = p .1; journal = s .journal } }
 
@@ -91,29 +91,29 @@ module _ {C : Type 0} where
   guarded (some n) s d = record { answer = no-way n; state = s }
   guarded none s d = d
 
-  -- what a call leaves of the core: all of it where it is refused (01, Answers by number)
+  -- the core after an effect: unchanged where the call is refused (01, Answers by number)
   abbrev pub after : C → Effect C → C
   after x (refused n) = x
   after x (accepted y w b) = y
 
-  -- the record of a call; a refused one has none (01, The journal)
+  -- the record of a call; a refused call has none (01, The journal)
   abbrev pub recorded : Effect C → List ℕ
   recorded (refused n) = []
   recorded (accepted y w b) = w
 
--- an accepted call stands on the stack; an accepted undo takes the last one off (01, What the contracts have to say: demand 3)
+-- the stack of standing calls: an accepted call is pushed, an accepted undo pops the last call (01, What the contracts have to say: demand 3)
 abbrev pub stack : {K : Type 0} → Act K → Answer → List K → List K
 stack (call c) (no-way n) k = k
 stack (call c) (done b) k = c ∷ k
 stack undo (no-way n) k = k
 stack undo (done b) k = drop 1 k
 
--- calls that stand, the last one first, as acts in the order in which they were made (01, What the contracts have to say: demand 3)
+-- standing calls, the last call first, as acts in the order in which they were made (01, What the contracts have to say: demand 3)
 abbrev pub inOrder : {K : Type 0} → List K → List (Act K)
 inOrder k = map call (reverse k)
 
 module _ (M : Machine) where
-  -- a call or an undo that the guard lets pass (01, The journal)
+  -- a call or an undo after the guard (01, The journal)
   unfoldable pub act : Act (M .Call) → State (M .Core) → Done (M .Core)
   act (call c) s = settle s (M .next c (s .core))
   act undo s = undoing s (M .unrecord (s .core) (s .used) (s .journal)) (eqb (s .depth) 0)
@@ -127,19 +127,19 @@ module _ (M : Machine) where
   run [] s = s
   run (a ∷ acts) s = run acts ((perform a s) .state)
 
-  -- the calls that stand after a run from s, the last one first, where those of k stood before
+  -- the standing calls after a run from s, the last call first; the calls of k stood before
   -- (01, What the contracts have to say: demand 3)
   unfoldable pub standing : List (Act (M .Call)) → State (M .Core) → List (M .Call) → List (M .Call)
   standing [] s k = k
   standing (a ∷ acts) s k = standing acts ((perform a s) .state) (stack a ((perform a s) .answer) k)
 
-  -- the calls of k, the last one first, done on the core x by `next` alone, without a journal
+  -- the core after the calls of k, the last call first, made on x by `next` alone, without a journal
   -- (01, What the contracts have to say: demand 3)
   unfoldable pub replay : M .Core → List (M .Call) → M .Core
   replay x [] = x
   replay x (c ∷ k) = after (replay x k) (M .next c (replay x k))
 
-  -- the records of these calls, in order (01, The journal)
+  -- the records of the calls of k, in order (01, The journal)
   unfoldable pub words : M .Core → List (M .Call) → List ℕ
   words x [] = []
   words x (c ∷ k) = words x k ++ recorded (M .next c (replay x k))
@@ -148,8 +148,8 @@ module _ (M : Machine) where
   abbrev pub empty : M .Core → List ℕ → State (M .Core)
   empty x j = record { core = x; depth = 0; used = 0; journal = j }
 
-  -- what makes a machine's records sound, on the cores that it keeps to: the last record gives the core before it back, and no guard
-  -- stands before the undo of a call that was accepted (01, What the contracts have to say: demand 3)
+  -- the records of a machine are sound, on cores that are `Ok`: `Ok` is kept, the last record restores the core before it, and no guard
+  -- refuses the undo of an accepted call (01, What the contracts have to say: demand 3)
   pub record Laws (Ok : M .Core → Type 0) : Type 0 where
     pub keeps : (c : M .Call) (x y : M .Core) (w : List ℕ) (b : ℕ) → Ok x → M .next c x ≡ accepted y w b → Ok y
     pub back : (c : M .Call) (x y : M .Core) (w : List ℕ) (b : ℕ) → Ok x → M .next c x ≡ accepted y w b

@@ -1,4 +1,4 @@
--- Our calls, as a sequence: `perform` is the calls of `rules` themselves. And the machine of Machine.antt that they are (proofs/Calls.antt).
+-- Sequences of our calls: `perform` makes the calls of `rules`. And our calls as a machine of Machine.antt (proofs/Calls.antt proves them the same).
 use mathlib.Core.Bool.{Bool, false, _||_}
 use mathlib.Core.List.{List, [], _∷_}
 use mathlib.Core.Option.{Option, none, some}
@@ -28,7 +28,7 @@ pub data Call : Type 0 where
   give : ℕ → ℕ → Call
   event : Call
 
--- all that the calls speak of: registers, depth, used and every lent word (01, What the contracts have to say)
+-- the whole state: registers, depth, used and every lent word (01, What the contracts have to say)
 pub record Whole : Type 0 where
   pub machine : declared.Machine
   pub memory : List ℕ
@@ -43,26 +43,26 @@ perform (call (give c byte)) s = calls.give c byte (s .machine) (s .memory) (s .
 perform (call event) s = calls.event (s .machine) (s .memory) (s .journal)
 perform undo s = calls.undo (s .machine) (s .memory) (s .journal)
 
--- what a call leaves (01, What the contracts have to say: demand 3)
+-- the state after a call (01, What the contracts have to say: demand 3)
 abbrev pub after : Outcome → Whole
 after o = record { machine = o .machine; memory = o .memory; journal = o .journal }
 
--- the calls made one after the other (01, What the contracts have to say: demand 3)
+-- the state after calls made one after the other (01, What the contracts have to say: demand 3)
 unfoldable pub run : List (Act Call) → Whole → Whole
 run [] s = s
 run (a ∷ acts) s = run acts (after (perform a s))
 
--- the test: the call is accepted. An accepted call stands; an accepted undo takes the last one off
+-- the stack of standing calls; t tells whether the call is accepted. An accepted call is pushed, an accepted undo pops the last call
 -- (01, What the contracts have to say: demand 3)
 abbrev pub stack : Act Call → Bool → List Call → List Call
 stack a t k = any.stack a (pick t (done 0) (no-way 0)) k
 
--- the accepted calls that are not undone, the last one first, where those of k stood before (01, What the contracts have to say: demand 3)
+-- the standing calls: accepted and not undone. The last call first; the calls of k stood before (01, What the contracts have to say: demand 3)
 unfoldable pub standing : List (Act Call) → Whole → List Call → List Call
 standing [] s k = k
 standing (a ∷ acts) s k = standing acts (after (perform a s)) (stack a (eqb (perform a s .answer) 0) k)
 
--- what shows: registers, memory, depth, used, and the journal's words in use (01, What the contracts have to say: demand 3)
+-- the visible state: registers, memory, depth, used, and the journal's words in use (01, What the contracts have to say: demand 3)
 pub record Shown : Type 0 where
   pub registers : List ℕ
   pub memory : List ℕ
@@ -70,7 +70,7 @@ pub record Shown : Type 0 where
   pub used : ℕ
   pub records : List ℕ
 
--- what shows of a state; the journal's words in use are the first `used` (01, The journal)
+-- the visible part of a state; the journal's words in use are its first `used` words (01, The journal)
 abbrev pub shown : Whole → Shown
 shown s =
     record {
@@ -81,14 +81,14 @@ shown s =
       records = lists.take (s .machine .used) (s .journal);
     }
 
--- ---- registers and memory, and what a call does to them without a journal
+-- ---- registers and memory, and the effect of a call on them, without a journal
 
 -- registers and memory (01, Memory and registers)
 pub record Plain : Type 0 where
   pub regs : List ℕ
   pub mem : List ℕ
 
--- a call's work on them: that of the step, or of a link or clock call (01, One step; 01, Links, clocks, slice)
+-- the work of a call on registers and memory (01, One step; 01, Links, clocks, slice)
 abbrev pub work : Call → Plain → Work
 work step x = steps.step (x .mem) (begin (x .regs))
 work tick x = links.tick (begin (x .regs))
@@ -96,7 +96,7 @@ work (take c) x = links.take (x .mem) c (begin (x .regs))
 work (give c byte) x = links.give (x .mem) c byte (begin (x .regs))
 work event x = links.event (begin (x .regs))
 
--- the byte that take hands over; 0 for any other call (01, Links, clocks, slice; DECISIONS 45)
+-- the byte of a take; 0 for any other call (01, Links, clocks, slice; DECISIONS 45)
 abbrev pub byteOf : Call → Plain → ℕ
 byteOf step x = 0
 byteOf tick x = 0
@@ -108,7 +108,7 @@ byteOf event x = 0
 abbrev pub places : Plain → Work → List ℕ
 places x w = touched (length (x .mem)) (w .stored)
 
--- what work does: refused with its number, or the new registers and memory and the record (01, The journal; DECISIONS 44)
+-- the effect of work: refused with its number, or the new registers and memory, and the record (01, The journal; DECISIONS 44)
 unfoldable pub effect : Plain → ℕ → Work → Effect Plain
 effect x byte w =
     ifEq (w .answer) 0

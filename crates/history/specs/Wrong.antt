@@ -1,5 +1,5 @@
--- 01's wrong functions, as properties of a function: refusing always, one fixed answer, leaving the machine as it was, an undo that does nothing,
--- the first step properly and then only moving Iptr, an invented depth or used (01, What the contracts have to say).
+-- 01's wrong functions, as properties of a function: it refuses always, has one fixed answer, leaves the machine as it was, undoes nothing, runs
+-- the first step properly and then only moves Iptr, invents depth or used (01, What the contracts have to say).
 use mathlib.Core.Path.{_≡_}
 use Prim.Native.Nat.{ℕ}
 use lib.ListN.{getD}
@@ -41,8 +41,8 @@ ThenMovesIptr =
 abbrev pub FirstProperly : Function → Type 0
 FirstProperly = EveryCall (λ m mem j r. m .depth ≡ 0 → StepContract m mem j (r .reply) (r .memory) (r .journal))
 
--- moving on: where the rules accept a step, it is accepted, or Iptr moves though it is refused. One that refuses from then on and moves nothing
--- falls to demand 2 alone: its state is what the calls that stand give (01, What the contracts have to say)
+-- moving on: where the rules accept a step, the function accepts it, or moves Iptr though it refuses. A function that refuses from then on and
+-- moves nothing is ruled out by demand 2 alone: its state is the one that the standing calls give (01, What the contracts have to say)
 abbrev pub MovesOn : Function → Type 0
 MovesOn =
     EveryCall
@@ -50,7 +50,7 @@ MovesOn =
     rules.step m mem j .answer ≡ 0 → (number (r .reply) ≡ 0 → ⊥)
     → getD (r .reply .machine .regs) iptrReg 0 ≡ getD (m .regs) iptrReg 0 → ⊥)
 
--- inventing depth or used: where a step is accepted, they are not those of one record more (01, What the contracts have to say)
+-- inventing depth or used: an accepted step leaves other counts than those of one record more (01, What the contracts have to say)
 abbrev pub InventsCounts : Function → Type 0
 InventsCounts =
     EveryCall
@@ -58,7 +58,7 @@ InventsCounts =
     number (r .reply) ≡ 0
     → (r .reply .machine .depth ≡ oneMore step m mem j .0) × (r .reply .machine .used ≡ oneMore step m mem j .1) → ⊥)
 
--- accepting what the rules accept, whatever it then leaves (01, What the contracts have to say)
+-- accepting every step that the rules accept, with any result (01, What the contracts have to say)
 abbrev pub Accepts : Function → Type 0
 Accepts = EveryCall (λ m mem j r. rules.step m mem j .answer ≡ 0 → number (r .reply) ≡ 0)
 

@@ -1,2 +1,2 @@
-// The public theorems (01, What the contracts have to say): the contracts of the eight public functions as definitions, one answer only,
-// refusals, and the history. It is in specs/ and proofs/; this crate has no code. proofs/Demands.antt has all of it on a page.
+// The contracts of the eight public functions, and the theorems about them (01, What the contracts have to say): one answer only, exact
+// refusals, reversible histories. Definitions are in specs/, theorems in proofs/, all demands on one page in proofs/Demands.antt. No code.

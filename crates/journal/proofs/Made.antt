@@ -1,4 +1,4 @@
--- What the stores of a plan leave: a turn of the loop of single stores, the move, and all of them.
+-- The memory after the stores of a plan: after a turn of the loop of single stores, after the move, after all stores.
 use mathlib.Core.Path.{_≡_, refl, ap}
 use mathlib.Core.Bool.{true, false}
 use mathlib.Core.List.{List, [], _∷_, _++_}

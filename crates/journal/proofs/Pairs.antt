@@ -1,4 +1,4 @@
--- What the loops that read a record leave: one turn of each, and the end.
+-- The loops that read a record: one turn of each, and the end.
 use mathlib.Core.Path.{_≡_, sym, _∙_}
 use mathlib.Core.Bool.{true, false}
 use mathlib.Core.List.{List, [], _∷_, append-nil}

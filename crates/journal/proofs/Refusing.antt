@@ -1,4 +1,4 @@
--- The checks before a call's own, by their number.
+-- The checks before the work of a call, by their number.
 use mathlib.Core.Path.{_≡_, refl, _∙_}
 use mathlib.Core.Bool.{Bool, true, false, _||_}
 use mathlib.Core.List.{List}
@@ -61,7 +61,7 @@ input-good c e =
     let f = neither (ltb c 4) (leb 8 c) e in
     (ltb-false c 4 (f .0), leb-false 8 c (f .1))
 
--- ---- the first that applies
+-- ---- the first check that applies
 
 module _ (badChannel : Bool) (n l depth used : ℕ) where
   pub bad-size : memorySizeBad n || journalSizeBad l ≡ true → 1 ≡ firstBad badChannel n l depth used
@@ -105,7 +105,7 @@ first-some m mem j o false true z h = refl
 first-some m mem j o false false true h = refl
 first-some m mem j o false false false h = absurd (h refl)
 
--- ---- what a call comes to after them
+-- ---- the outcome of a call after the checks
 
 module _ (badChannel : Bool) (m : Machine) (mem j : List ℕ) where
   abbrev number : ℕ
@@ -143,7 +143,7 @@ module _ (badChannel : Bool) (m : Machine) (mem j : List ℕ) where
     pub frame-good : boundsBad (length j) (m .depth) (m .used) ≡ false
     frame-good = parts .2
 
--- ---- the last of the numbers: 12 is none of those below it
+-- ---- 12, the last number, is no number below it
 
 pub above : (n k : ℕ) → k ≤ n → (n ≡ k → ⊥) → suc k ≤ n
 above n k h e = omega arith

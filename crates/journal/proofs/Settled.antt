@@ -1,4 +1,4 @@
--- What a call comes to after the checks: a plan, an undo, a clear.
+-- The outcome of a call after the checks: of a plan, an undo, a clear.
 use mathlib.Core.Path.{_≡_, ap}
 use mathlib.Core.Bool.{Bool, true, false, _||_}
 use mathlib.Core.List.{List}
@@ -23,7 +23,7 @@ use Rattle.plan.specs.declared.Plan.{Plan}
 use Rattle.journal.specs.Checks.{firstBad}
 use Rattle.journal.proofs.Refusing.{passed, fits, frame-good}
 
--- what `settle` asks
+-- the requires of `commit_or_refuse`
 pub ready :
     (badChannel : Bool) (m : Machine) (mem j : List ℕ)
     → firstBad badChannel (length mem) (length j) (m .depth) (m .used) ≡ 0
@@ -36,7 +36,7 @@ ready badChannel m mem j h p k c n =
     let f = fits badChannel m mem j h in
     (k, c, n, f .0, f .1, frame-good badChannel m mem j h)
 
--- ---- what a plan comes to
+-- ---- the outcome of a plan
 
 known-of : (p : Plan) (w : Work) → view p ≡ w → Fine Known w → p .answer ≤ 12
 known-of p w e f = omega (arith, ap (λ (x : Work). x .answer) e, f .known)

@@ -1,4 +1,4 @@
--- THE LAW of undo: after any stores that were recorded, undo gives back registers, memory, depth and used.
+-- The law of undo: after any recorded stores, undo restores registers, memory, depth and used.
 use mathlib.Core.Path.{_≡_, _∙_}
 use mathlib.Core.Bool.{false}
 use mathlib.Core.List.{List, _++_}
@@ -17,7 +17,7 @@ use Rattle.laws.proofs.Touched.{touched-below, outside-touched, length-record}
 use Rattle.history.proofs.Records.{pairsOf, strays-none, written-back, last-pairs, last-start, last-regs, last-read}
 use Rattle.journal_record.proofs.Frame.{frame-good, frame-is}
 
--- an outcome that gives m and mem back and leaves the journal j
+-- the accepted outcome with machine m, memory mem and journal j
 abbrev pub givenBack : Machine → List ℕ → List ℕ → Outcome
 givenBack m mem j = record { answer = 0; byte = 0; machine = m; memory = mem; journal = j }
 

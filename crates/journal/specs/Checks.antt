@@ -1,4 +1,4 @@
--- The checks before a call's own, as one number.
+-- The checks before the work of a call, as one number.
 use Prim.Native.Nat.{ℕ}
 use mathlib.Core.Bool.{Bool, _||_}
 use Rattle.rules.specs.Tests.{pick}
@@ -14,6 +14,6 @@ unfoldable pub firstBad : Bool → ℕ → ℕ → ℕ → ℕ → ℕ
 firstBad badChannel memory journal depth used =
     pick (memorySizeBad memory || journalSizeBad journal) 1 (pick badChannel 3 (pick (boundsBad journal depth used) 4 0))
 
--- a reply that alters nothing, whatever memory and journal are (01, Answers by number)
+-- the reply of a refused call: the machine unchanged, byte 0; for any memory and journal (01, Answers by number)
 abbrev pub Refusal : ℕ → Machine → Reply → Type 0
 Refusal number m r = (mem j : List ℕ) → outcomeOf r mem j ≡ refused number m mem j

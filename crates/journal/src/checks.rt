@@ -1,4 +1,4 @@
-// The checks before a call's own, and a refusal by its number.
+// The checks before a call works: Size, BadChannel, JournalBad, in the order of 01's table. And a refusal by its number.
 use journal_record::bounds;
 use rules::Answer;
 use rules::Machine;
@@ -10,7 +10,7 @@ ghost use Rattle.rules.specs.Calls as calls;
 ghost use Rattle.rules.specs.Calls.{numberOf};
 ghost use Rattle.journal.specs.Checks.{Refusal, firstBad};
 
-// Whether a memory or a journal of so many words is none that a call takes.
+// Tests for Size: memory is not 64 to 16,384 words, or the journal is over 65,536.
 pub fn size_bad(memory: usize, journal: usize) -> bool
     ensures { λ r. ⌜ r ≡ calls.memorySizeBad memory || calls.journalSizeBad journal ⌝ }
 {
@@ -23,14 +23,14 @@ pub fn size_bad(memory: usize, journal: usize) -> bool
     65536 < journal
 }
 
-// Whether a channel is no output link.
+// Tests for BadChannel of take: the output links are 0 to 3.
 pub fn not_output(channel: u32) -> bool
     ensures { λ r. ⌜ r ≡ calls.notOutput channel ⌝ }
 {
     4 <= channel
 }
 
-// Whether a channel is no input link.
+// Tests for BadChannel of give: the input links are 4 to 7.
 pub fn not_input(channel: u32) -> bool
     ensures { λ r. ⌜ r ≡ calls.notInput channel ⌝ }
 {
@@ -40,7 +40,7 @@ pub fn not_input(channel: u32) -> bool
     8 <= channel
 }
 
-// The number of the first of Size, BadChannel (where the channel is wrong), JournalBad that applies, else 0.
+// Returns the number of the first refusal that applies: Size, BadChannel (where wrong is true), JournalBad; else 0.
 pub fn first_bad(wrong: bool, memory: usize, journal: usize, depth: usize, used: usize) -> u32
     ensures { λ r. ⌜ r ≡ firstBad wrong memory journal depth used ⌝ }
 {
@@ -56,7 +56,7 @@ pub fn first_bad(wrong: bool, memory: usize, journal: usize, depth: usize, used:
     0
 }
 
-// The answer of 01's number.
+// Returns the answer with 01's number.
 fn answer_of(number: u32) -> Answer
     requires { ⌜ number ≤ 12 ⌝ }
     ensures { λ r. ⌜ numberOf r ≡ number ⌝ }
@@ -78,7 +78,7 @@ fn answer_of(number: u32) -> Answer
     }
 }
 
-// A refusal by its number; it alters nothing.
+// Builds the reply of a call refused with a number: the machine unchanged, byte 0.
 pub fn refuse(m: Machine, number: u32) -> Reply
     requires { ⌜ number ≤ 12 ⌝ }
     ensures { λ r. ⌜ Refusal number m r ⌝ }

@@ -1,5 +1,5 @@
-// The journal of a machine's calls: the commit of a plan appends its record and makes its stores, and undo takes the
-// last record back. A call that makes no plan is committed by the crate brief.
+// Commits a plan (writes its record, makes its stores) and undoes the last record (01, The journal). journal_small commits a
+// call that makes no plan.
 use crate::stores;
 use crate::undo_parts;
 use journal_record::bounds;
@@ -19,7 +19,7 @@ ghost use Rattle.rules.specs.Journal as journalRules;
 ghost use Rattle.rules.specs.Calls.{outcomeOf, recorded, undoLast};
 ghost use Rattle.plan.specs.View.{view};
 
-// Makes a plan real: its record is appended and its stores are made. Where the record does not fit, nothing is written.
+// Commits a plan: writes its record at used, then makes its stores. Refuses with JournalFull where the record does not fit.
 pub fn commit(m: Machine, p: Plan, byte: u8, mem: &mut [u32], journal: &mut [u32]) -> Reply
     requires { ⌜ (p .cut ≤ p .n) × (p .n ≤ 16) × (length (now mem) ≤ 16384) × (length (now journal) ≤ 65536) × (journalRules.boundsBad (length (now journal)) (m .depth) (m .used) ≡ false) ⌝ }
     ensures { λ r. ⌜ outcomeOf r (now (mem .exit)) (now (journal .exit)) ≡ recorded m (now (mem .entry)) (now (journal .entry)) byte (p .regs) (touched (length (now (mem .entry))) (view p .stored)) (stores (now (mem .entry)) (view p .stored)) ⌝ }
@@ -47,7 +47,8 @@ pub fn commit(m: Machine, p: Plan, byte: u8, mem: &mut [u32], journal: &mut [u32
     }
 }
 
-// Takes the last record back: registers and memory are as before that call. Writes no journal word.
+// Undoes the last record: restores registers and memory as before that call. Writes no journal word. Refuses with JournalBad where
+// the record is longer than used or has an index outside memory.
 pub fn undo_last(m: Machine, mem: &mut [u32], journal: &[u32]) -> Reply
     requires { ⌜ (journalRules.boundsBad (length (now journal)) (m .depth) (m .used) ≡ false) × (0 < m .depth) ⌝ }
     ensures { λ r. ⌜ outcomeOf r (now (mem .exit)) (now (journal .entry)) ≡ undoLast m (now (mem .entry)) (now (journal .entry)) ⌝ }

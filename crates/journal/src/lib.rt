@@ -1,6 +1,7 @@
-// HEAD journal
-pub mod checks; // The checks before a call's own, and a refusal by its number.
-pub mod undo_parts; // The parts of undo: the pairs of the last record are tested and written back, and its registers are taken out.
-pub mod commit; // The journal of a machine's calls: the commit of a plan appends its record and makes its stores, and undo takes the
-pub mod stores; // The stores of a plan, made in program order: single stores, the move, single stores.
-pub mod outcome; // What a worked-out plan comes to after the checks: a refusal by its number, or a commit.
+// The checks before a call, the commit of a plan or its refusal, undo (01, Answers by number; The journal). Mirrors `checked`,
+// `commitOrRefuse`, `recorded` and `undoLast` of rules/specs/Calls.antt.
+pub mod checks; // Size, BadChannel, JournalBad; a refusal by its number
+pub mod outcome; // commits a plan or refuses it
+pub mod commit; // commits a plan; undoes the last record
+pub mod stores; // makes the stores of a plan
+pub mod undo_parts; // tests and reads the last record

@@ -1,4 +1,4 @@
-// What a worked-out plan comes to after the checks: a refusal by its number, or a commit.
+// The outcome of a plan after the checks: a refusal by its number, or a commit.
 use crate::checks::refuse;
 use crate::commit;
 use plan::Plan;
@@ -12,7 +12,7 @@ ghost use Rattle.rules.specs.Journal.{boundsBad};
 ghost use Rattle.rules.specs.Calls.{outcomeOf, commitOrRefuse};
 ghost use Rattle.plan.specs.View.{view};
 
-// A plan that was refused answers its number; any other is committed.
+// Refuses a plan that has a refusal, with its number; commits any other.
 pub fn commit_or_refuse(
     m: Machine,
     p: Plan,

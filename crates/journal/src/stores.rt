@@ -1,4 +1,5 @@
-// The stores of a plan, made in program order: single stores, the move, single stores.
+// Makes the stores of a plan in program order: single stores, the block move, single stores. Mirrors `stores` of
+// rules/specs/Memory.antt.
 use journal_record::touched;
 use plan::Plan;
 ghost use mathlib.Core.Path.{_≡_};
@@ -9,7 +10,7 @@ ghost use lib.Seq.{slice};
 ghost use Rattle.rules.specs.Memory.{stores};
 ghost use Rattle.plan.specs.View.{singles, moves, view};
 
-// One store; outside of memory it is none.
+// Stores a word; does nothing outside memory.
 fn put_one(mem: &mut [u32], i: u32, v: u32)
     ensures { λ _. ⌜ now (mem .exit) ≡ set (now (mem .entry)) i v ⌝ }
 {
@@ -19,7 +20,7 @@ fn put_one(mem: &mut [u32], i: u32, v: u32)
     }
 }
 
-// The single stores from f up to t.
+// Makes the single stores f..t.
 fn put_singles(mem: &mut [u32], ix: [u32; 16], vs: [u32; 16], f: usize, t: usize)
     requires { ⌜ (f ≤ t) × (t ≤ 16) ⌝ }
     ensures { λ _. ⌜ now (mem .exit) ≡ stores (now (mem .entry)) (slice f t (singles ix vs)) ⌝ }
@@ -31,7 +32,7 @@ fn put_singles(mem: &mut [u32], ix: [u32; 16], vs: [u32; 16], f: usize, t: usize
     }
 }
 
-// The move; one that does not stay inside memory is none.
+// Makes the block move; does nothing where the move leaves memory.
 fn put_move(mem: &mut [u32], source: u32, target: u32, n: u32)
     requires { ⌜ length (now mem) ≤ 16384 ⌝ }
     ensures { λ _. ⌜ now (mem .exit) ≡ stores (now (mem .entry)) (moves source target n) ⌝ }
@@ -41,7 +42,7 @@ fn put_move(mem: &mut [u32], source: u32, target: u32, n: u32)
     }
 }
 
-// The single stores before the move, and the move.
+// Makes the single stores before the move, and the move.
 fn make_front(mem: &mut [u32], p: Plan)
     requires { ⌜ (p .cut ≤ 16) × (length (now mem) ≤ 16384) ⌝ }
     ensures { λ _. ⌜ now (mem .exit) ≡ stores (now (mem .entry)) (take (p .cut) (singles (p .ix) (p .vs)) ++ moves (p .source) (p .target) (p .count)) ⌝ }
@@ -52,7 +53,7 @@ fn make_front(mem: &mut [u32], p: Plan)
     put_move(mem, p.source, p.target, p.count);
 }
 
-// All stores of a plan.
+// Makes all stores of a plan.
 pub fn make(mem: &mut [u32], p: Plan)
     requires { ⌜ (p .cut ≤ p .n) × (p .n ≤ 16) × (length (now mem) ≤ 16384) ⌝ }
     ensures { λ _. ⌜ now (mem .exit) ≡ stores (now (mem .entry)) (view p .stored) ⌝ }

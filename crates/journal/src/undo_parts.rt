@@ -1,4 +1,4 @@
-// The parts of undo: the pairs of the last record are tested and written back, and its registers are taken out.
+// The parts of undo (01, The journal): tests the pairs of the last record, writes them back, reads its registers.
 use rules::REGISTERS;
 ghost use mathlib.Core.Path.{_≡_};
 ghost use mathlib.Core.Bool.{false};
@@ -7,7 +7,7 @@ ghost use lib.ListN.{length, take, drop};
 ghost use Rattle.rules.specs.Registers.{registers};
 ghost use Rattle.rules.specs.Journal as journalRules;
 
-// Whether one of the n pairs from a place has an index that is not below size.
+// Tests for JournalBad: one of the n pairs at a place has an index outside a memory of size words.
 pub fn strays(journal: &[u32], at: usize, n: usize, size: usize) -> bool
     requires { ⌜ at + 2 * n ≤ length (now journal) ⌝ }
     ensures { λ r. ⌜ r ≡ journalRules.strays size (journalRules.pairsAt (now (journal .entry)) at n) ⌝ }
@@ -25,7 +25,7 @@ pub fn strays(journal: &[u32], at: usize, n: usize, size: usize) -> bool
     false
 }
 
-// Writes the n pairs from a place back into memory, first to last.
+// Writes the n pairs at a place back into memory, first to last.
 pub fn write_back(mem: &mut [u32], journal: &[u32], at: usize, n: usize)
     requires { ⌜ (at + 2 * n ≤ length (now journal)) × (journalRules.strays (length (now mem)) (journalRules.pairsAt (now journal) at n) ≡ false) ⌝ }
     ensures { λ _. ⌜ now (mem .exit) ≡ journalRules.writeBack (now (mem .entry)) (journalRules.pairsAt (now (journal .entry)) at n) ⌝ }
@@ -41,7 +41,7 @@ pub fn write_back(mem: &mut [u32], journal: &[u32], at: usize, n: usize)
     }
 }
 
-// The registers that stand from a place on.
+// Reads the registers at a place.
 pub fn get_regs(journal: &[u32], at: usize) -> [u32; REGISTERS]
     requires { ⌜ at + registers ≤ length (now journal) ⌝ }
     ensures { λ r. ⌜ r ≡ take registers (drop at (now (journal .entry))) ⌝ }

@@ -1,7 +1,7 @@
 -- One byte of a word, one byte of the memory, and a move of bytes, one after the other.
 use mathlib.Core.Path.{_≡_, refl}
 use mathlib.Core.List.{List}
-use Prim.Native.Nat.{ℕ, zero, suc, _+_, _-_, _*_, _/_, _%_, _^_, _<_}
+use Prim.Native.Nat.{ℕ, zero, suc, _+_, _-_, _*_, _/_, _%_, _<_}
 use native.Mathlib.Nat.{suc-add, zero-add, add-zero}
 use native.Mathlib.Decide.{decLt, ℕ-discrete}
 use native.Mathlib.Omega.{arith}
@@ -72,7 +72,7 @@ moved-split (suc a) b m s d =
     let f : d + 1 + a ≡ d + suc a = omega arith in
     rw (suc-add a b, ← e, ← f) (moved-split a b (setByteIn m d (byteIn m s)) (s + 1) (d + 1))
 
--- a turn of the move, as the code makes it: its byte b, and the word w that it stores
+-- a turn of the code's loop: b is the byte read, w the word stored
 pub moved-cut :
     (m : List ℕ) (s d n b w : ℕ)
     → 0 < n

@@ -1,4 +1,4 @@
--- Four bytes at a time.
+-- A move of four bytes at a time is a move of four single bytes.
 use mathlib.Core.Path.{_≡_, refl, ap, _∙_}
 use mathlib.Core.List.{List}
 use Prim.Native.Nat.{ℕ, zero, suc, _+_, _-_, _*_, _/_, _%_, _^_, _≤_, _<_}
@@ -144,7 +144,7 @@ four-sets m d a b c e z h g p q r s =
 
 -- ---- one turn of the word loop
 
--- a byte that is read later is not one that was stored before
+-- the byte read at turn j is not the byte stored at an earlier turn i
 apart : (s d i j : ℕ) → (s < d → s + 4 ≤ d) → i < j → j < 4 → s + j ≡ d + i → ⊥
 apart s d i j o p q e = elim (decLt s d) [ yes h ↦ let g = o h in omega arith | no h ↦ omega arith ]
 

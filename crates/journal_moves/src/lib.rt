@@ -1,5 +1,5 @@
-// A move of bytes inside the memory, in rising order, each read just before it is stored; a word at a time where that comes to the same.
-// Places are counted in bytes from the start of memory.
+// The block move on memory (01, One step): bytes in rising order, each read just before it is stored; a word at a time where the
+// result is the same. Mirrors `moved` of rules/specs/Memory.antt. Source and destination are bytes from the start of memory.
 ghost use mathlib.Core.Path.{_≡_};
 ghost use Prim.Native.Nat.{_+_, _-_, _*_, _/_, _%_, _^_, _<_, _≤_};
 ghost use lib.ListN.{length};
@@ -26,7 +26,7 @@ fn move_bytes(mem: &mut [u32], src: usize, dst: usize, n: usize)
     }
 }
 
-// The last 4 - k bytes of x and the first k of y, as a word.
+// Joins the upper 4 - k bytes of x and the lower k bytes of y to a word.
 fn straddle(k: usize, x: u32, y: u32) -> u32
     requires { ⌜ (0 < k) × (k < 4) ⌝ }
     ensures { λ r. ⌜ r ≡ x / 2 ^ (8 * k) + y % 2 ^ (8 * k) * 2 ^ (32 - 8 * k) ⌝ }
@@ -38,7 +38,7 @@ fn straddle(k: usize, x: u32, y: u32) -> u32
     }
 }
 
-// The four bytes from s, as a word.
+// Reads the four bytes from s on as a word.
 fn four_bytes(mem: &[u32], s: usize) -> u32
     requires { ⌜ s + 4 ≤ 4 * length (now mem) ⌝ }
     ensures { λ r. ⌜ r ≡ fourBytes (now (mem .entry)) s ⌝ }
@@ -53,7 +53,7 @@ fn four_bytes(mem: &[u32], s: usize) -> u32
     straddle(s % 4, x, y)
 }
 
-// Moves 4 * n bytes to a word boundary, four at a time. What is read then must not be less than a word behind what is stored.
+// Moves 4 * n bytes to a word boundary, four at a time. A source below the destination must be at least a word below it.
 fn move_words(mem: &mut [u32], src: usize, dst: usize, n: usize)
     requires { ⌜ (dst % 4 ≡ 0) × (src + 4 * n ≤ 4 * length (now mem)) × (dst + 4 * n ≤ 4 * length (now mem)) × (src < dst → src + 4 ≤ dst) ⌝ }
     ensures { λ _. ⌜ now (mem .exit) ≡ moved (now (mem .entry)) src dst (4 * n) ⌝ }
@@ -72,7 +72,7 @@ fn move_words(mem: &mut [u32], src: usize, dst: usize, n: usize)
 }
 
 // Moves n bytes to a word boundary.
-fn move_level(mem: &mut [u32], src: usize, dst: usize, n: usize)
+fn move_aligned(mem: &mut [u32], src: usize, dst: usize, n: usize)
     requires { ⌜ (dst % 4 ≡ 0) × (src + n ≤ 4 * length (now mem)) × (dst + n ≤ 4 * length (now mem)) × (src < dst → src + 4 ≤ dst) ⌝ }
     ensures { λ _. ⌜ now (mem .exit) ≡ moved (now (mem .entry)) src dst n ⌝ }
 {
@@ -92,10 +92,10 @@ fn move_parts(mem: &mut [u32], src: usize, dst: usize, head: usize, rest: usize)
     let s = src + head;
     let d = dst + head;
     move_bytes(mem, src, dst, head);
-    move_level(mem, s, d, rest);
+    move_aligned(mem, s, d, rest);
 }
 
-// Moves n bytes. Only a move up by 1 to 3 bytes, which repeats bytes inside a word, goes one by one.
+// Moves n bytes, a word at a time. A move up by 1 to 3 bytes, which repeats bytes inside a word, is made one by one.
 pub fn move_fast(mem: &mut [u32], src: usize, dst: usize, n: usize)
     requires { ⌜ (src + n ≤ 4 * length (now mem)) × (dst + n ≤ 4 * length (now mem)) ⌝ }
     ensures { λ _. ⌜ now (mem .exit) ≡ moved (now (mem .entry)) src dst n ⌝ }

@@ -1,4 +1,4 @@
--- Tests of sizes, in the code's form and in the definitions'.
+-- The bounds of the journal, as the code tests them and as the definitions do.
 use mathlib.Core.Path.{_≡_, refl}
 use mathlib.Core.Bool.{Bool, true, false, _||_}
 use Prim.Native.Nat.{ℕ, _+_, _-_, _*_, _/_, _≤_, _<_}
@@ -30,7 +30,7 @@ module _ (size depth used : ℕ) where
       rw (le-ltb size used h)
       (same-test (used / (registers + 1)) depth used (recordLength 0 * depth) (λ k. omega arith) (λ k. omega arith))
 
-  -- what a frame that is not bad tells
+  -- bounds that are not bad: used is within the journal, and the records within used
   pub frame-good : boundsBad size depth used ≡ false → (used ≤ size) × (recordLength 0 * depth ≤ used)
   unfolding boundsBad
   frame-good e =

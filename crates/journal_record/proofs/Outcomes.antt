@@ -1,4 +1,4 @@
--- What a commit and an undo come to, as the code finds it.
+-- The outcomes of a commit and of an undo, from the tests and results of the code.
 use mathlib.Core.Path.{_≡_, refl}
 use mathlib.Core.Bool.{true, false}
 use mathlib.Core.List.{List}
@@ -15,7 +15,7 @@ use Rattle.rules.specs.declared.Answer.{Answer}
 use Rattle.rules.specs.declared.Answer.the-variants.{Done, JournalBad, JournalFull}
 use Rattle.rules.proofs.Tests.{yes-lt, no-lt, yes, no}
 
--- a reply that alters nothing
+-- the outcome of a reply that changes nothing
 pub refusal-is :
     (r : Reply) (m : Machine) (mem j : List ℕ) (a : Answer)
     → (r .machine ≡ m) × (r .answer ≡ a) × (r .byte ≡ 0)

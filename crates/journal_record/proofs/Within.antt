@@ -1,4 +1,4 @@
--- Whether a move stays inside memory, in the code's form and in the definition's.
+-- The test that a move stays inside memory, of the code and of the definition.
 use mathlib.Core.Path.{_≡_, refl}
 use mathlib.Core.Bool.{Bool, true, false, _&&_}
 use Prim.Native.Nat.{ℕ, _+_, _*_, _≤_, _<_}

@@ -1,4 +1,4 @@
--- What the loops that write a record leave: one turn of each, and the end.
+-- The loops that write a record: the journal after one turn, and after the last.
 use mathlib.Core.Path.{_≡_, refl, sym, ap, _∙_}
 use mathlib.Core.List.{List, [], _∷_, _++_}
 use Prim.Native.Nat.{ℕ, zero, suc, _+_, _-_, _*_, _≤_, _<_}

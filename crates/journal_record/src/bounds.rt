@@ -1,4 +1,4 @@
-// The frame of a journal: what used and depth can be, whether a record fits, and the answer of a call that alters nothing.
+// Bounds of the journal (01, The journal): of used and depth, and of the room for a record. And the reply of a refused call.
 use rules::Answer;
 use rules::Machine;
 use rules::REGISTERS;
@@ -8,10 +8,10 @@ ghost use Prim.Native.Nat.{_+_, _≤_};
 ghost use lib.Dec.{ltb};
 ghost use Rattle.rules.specs.Journal as journalRules;
 
-// The words of a record besides its pairs.
+// The length of a record with no pairs: the registers and the number of pairs.
 pub const EMPTY_RECORD: usize = REGISTERS + 1;
 
-// Whether used and depth cannot be those of a journal of size words. Nothing wraps: a quotient stands for the product.
+// Tests for JournalBad: used is above the size, or depth records need more than used. Divides used, so that no product wraps.
 pub fn bounds_bad(size: usize, depth: usize, used: usize) -> bool
     ensures { λ r. ⌜ r ≡ journalRules.boundsBad size depth used ⌝ }
 {
@@ -21,7 +21,7 @@ pub fn bounds_bad(size: usize, depth: usize, used: usize) -> bool
     used / EMPTY_RECORD < depth
 }
 
-// Whether a record of n pairs does not fit after used. Nothing wraps: the room that is left stands for the sum.
+// Tests for JournalFull: a record of n pairs does not fit after used. Compares with the room left, so that no sum wraps.
 pub fn is_full(size: usize, used: usize, n: usize) -> bool
     requires { ⌜ (used ≤ size) × (n ≤ 65536) ⌝ }
     ensures { λ r. ⌜ r ≡ ltb size (used + journalRules.recordLength n) ⌝ }
@@ -29,7 +29,7 @@ pub fn is_full(size: usize, used: usize, n: usize) -> bool
     size - used < EMPTY_RECORD + 2 * n
 }
 
-// An answer that alters nothing.
+// Builds the reply of a refused call: the machine unchanged, byte 0.
 pub fn refusal(m: Machine, answer: Answer) -> Reply
     ensures { λ r. ⌜ (r .machine ≡ m) × (r .answer ≡ answer) × (r .byte ≡ 0) ⌝ }
 {

@@ -1,5 +1,5 @@
-// The parts of a record: for each word touched its index and the word that memory holds there before the call, and the registers before the
-// call.
+// The parts of a record (01, The journal): a pair for each word stored to, which is its index and its value before the call;
+// and the registers before the call.
 use crate::touched::Outline;
 use rules::REGISTERS;
 ghost use mathlib.Core.Path.{_≡_};
@@ -12,11 +12,11 @@ ghost use Rattle.laws.specs.Lists.{Below};
 ghost use Rattle.journal_record.specs.Indices.{range};
 ghost use Rattle.journal_record.specs.Outline.{Outlined, listed};
 
-// How many registers are written first.
+// The registers of the first of two copies.
 const HALF: usize = 23;
 
-// Writes the pairs of the words that ix lists from f up to t.
-fn put_part(journal: &mut [u32], mem: &[u32], ix: [u32; 16], f: usize, t: usize, at: usize)
+// Writes the pairs of the words ix[f..t].
+fn put_single_pairs(journal: &mut [u32], mem: &[u32], ix: [u32; 16], f: usize, t: usize, at: usize)
     requires { ⌜ (f ≤ t) × (t ≤ 16) × (at + 2 * (t - f) ≤ length (now journal)) × Below (length (now mem)) (slice f t ix) ⌝ }
     ensures { λ _. ⌜ now (journal .exit) ≡ sets (now (journal .entry)) at (journalRules.olds (now (mem .entry)) (slice f t ix)) ⌝ }
 {
@@ -33,8 +33,8 @@ fn put_part(journal: &mut [u32], mem: &[u32], ix: [u32; 16], f: usize, t: usize,
     }
 }
 
-// Writes the pairs of the count words from lo.
-fn put_range(journal: &mut [u32], mem: &[u32], lo: usize, count: usize, at: usize)
+// Writes the pairs of the count words from index lo on.
+fn put_range_pairs(journal: &mut [u32], mem: &[u32], lo: usize, count: usize, at: usize)
     requires { ⌜ (lo + count ≤ length (now mem)) × (length (now mem) ≤ 16384) × (at + 2 * count ≤ length (now journal)) ⌝ }
     ensures { λ _. ⌜ now (journal .exit) ≡ sets (now (journal .entry)) at (journalRules.olds (now (mem .entry)) (range lo count)) ⌝ }
 {
@@ -51,8 +51,8 @@ fn put_range(journal: &mut [u32], mem: &[u32], lo: usize, count: usize, at: usiz
     }
 }
 
-// Writes the pairs of the single words below the span, then those of the span.
-fn put_front(journal: &mut [u32], mem: &[u32], o: Outline, at: usize)
+// Writes the pairs of the single words below the range, then of the range.
+fn put_front_pairs(journal: &mut [u32], mem: &[u32], o: Outline, at: usize)
     requires { ⌜ Outlined (length (now mem)) o × (length (now mem) ≤ 16384) × (at + 2 * (o .low + o .c) ≤ length (now journal)) ⌝ }
     ensures { λ _. ⌜ now (journal .exit) ≡ sets (sets (now (journal .entry)) at (journalRules.olds (now (mem .entry)) (take (o .low) (o .ix)))) (at + 2 * o .low) (journalRules.olds (now (mem .entry)) (range (o .lo) (o .c))) ⌝ }
 {
@@ -61,11 +61,11 @@ fn put_front(journal: &mut [u32], mem: &[u32], o: Outline, at: usize)
     let lo = o.lo;
     let c = o.c;
     let next = at + 2 * low;
-    put_part(journal, mem, ix, 0, low, at);
-    put_range(journal, mem, lo, c, next);
+    put_single_pairs(journal, mem, ix, 0, low, at);
+    put_range_pairs(journal, mem, lo, c, next);
 }
 
-// Writes all pairs.
+// Writes the pairs of all words of an outline.
 pub fn put_pairs(journal: &mut [u32], mem: &[u32], o: Outline, at: usize)
     requires { ⌜ Outlined (length (now mem)) o × (length (now mem) ≤ 16384) × (at + 2 * o .count ≤ length (now journal)) ⌝ }
     ensures { λ _. ⌜ now (journal .exit) ≡ sets (now (journal .entry)) at (journalRules.olds (now (mem .entry)) (listed o)) ⌝ }
@@ -74,12 +74,12 @@ pub fn put_pairs(journal: &mut [u32], mem: &[u32], o: Outline, at: usize)
     let mid = o.mid;
     let end = o.end;
     let next = at + 2 * (o.low + o.c);
-    put_front(journal, mem, o, at);
-    put_part(journal, mem, ix, mid, end, next);
+    put_front_pairs(journal, mem, o, at);
+    put_single_pairs(journal, mem, ix, mid, end, next);
 }
 
-// Writes the registers from f up to t.
-fn put_some(journal: &mut [u32], regs: [u32; REGISTERS], f: usize, t: usize, at: usize)
+// Writes the registers f..t.
+fn put_reg_range(journal: &mut [u32], regs: [u32; REGISTERS], f: usize, t: usize, at: usize)
     requires { ⌜ (f ≤ t) × (t ≤ registers) × (at + (t - f) ≤ length (now journal)) ⌝ }
     ensures { λ _. ⌜ now (journal .exit) ≡ sets (now (journal .entry)) at (slice f t regs) ⌝ }
 {
@@ -92,12 +92,12 @@ fn put_some(journal: &mut [u32], regs: [u32; REGISTERS], f: usize, t: usize, at:
     }
 }
 
-// Writes the registers, in two halves: a copy of up to 128 bytes is compiled to moves, a longer one to a call.
+// Writes the registers in two copies: a copy of up to 128 bytes is compiled to moves, a longer one to a call.
 pub fn put_regs(journal: &mut [u32], regs: [u32; REGISTERS], at: usize)
     requires { ⌜ at + registers ≤ length (now journal) ⌝ }
     ensures { λ _. ⌜ now (journal .exit) ≡ sets (now (journal .entry)) at regs ⌝ }
 {
     let next = at + HALF;
-    put_some(journal, regs, 0, HALF, at);
-    put_some(journal, regs, HALF, REGISTERS, next);
+    put_reg_range(journal, regs, 0, HALF, at);
+    put_reg_range(journal, regs, HALF, REGISTERS, next);
 }

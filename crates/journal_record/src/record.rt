@@ -1,5 +1,4 @@
-// The record of a call: for each word touched its index and the word that memory holds there before the call, then the registers before the call,
-// then the number of pairs.
+// The record of a call (01, The journal): the pairs, the registers before the call, the number of pairs.
 use crate::parts::put_pairs;
 use crate::parts::put_regs;
 use crate::touched::Outline;
@@ -11,7 +10,7 @@ ghost use lib.Seq.{sets};
 ghost use Rattle.rules.specs.Journal as journalRules;
 ghost use Rattle.journal_record.specs.Outline.{Outlined, listed};
 
-// Writes the whole record, from used on.
+// Writes the record at used.
 pub fn append(journal: &mut [u32], mem: &[u32], o: Outline, regs: [u32; REGISTERS], used: usize)
     requires { ⌜ Outlined (length (now mem)) o × (length (now mem) ≤ 16384) × (used + journalRules.recordLength (o .count) ≤ length (now journal)) ⌝ }
     ensures { λ _. ⌜ now (journal .exit) ≡ sets (now (journal .entry)) used (journalRules.recordOf (now (mem .entry)) regs (listed o)) ⌝ }

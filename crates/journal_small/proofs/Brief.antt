@@ -1,4 +1,4 @@
--- The record of a common step, and what such a step comes to.
+-- The record of a common step, and the outcome of its commit.
 use mathlib.Core.Path.{_≡_, refl, sym}
 use mathlib.Core.Bool.{true, false}
 use mathlib.Core.List.{List, [], _∷_, _++_}
@@ -25,7 +25,7 @@ use Rattle.journal_small.specs.Count.{Counted, listed, made, storesOf}
 pub machine-is : (x : Machine) (regs : List ℕ) (d u : ℕ) → (x .regs ≡ regs) × (x .depth ≡ d) × (x .used ≡ u) → x ≡ machineOf regs d u
 machine-is x regs d u e = λ i. record { regs = e .0 i; depth = e .1 i; used = e .2 i }
 
--- the registers, and behind them the number of pairs
+-- the registers, then the number of pairs
 pub tail-written : (j regs : List ℕ) (at n : ℕ) → length regs ≡ registers → set (sets j at regs) (at + registers) n ≡ sets j at (regs ++ (n ∷ []))
 tail-written j regs at n h =
     let b : at + length regs ≡ at + registers = omega arith in
@@ -68,7 +68,7 @@ listed-length zero i h = refl
 listed-length (suc zero) i h = refl
 listed-length (suc (suc n)) i h = absurd (omega arith)
 
--- ---- what is written
+-- ---- the words written
 
 pub pair-none : (j mem : List ℕ) (i at n : ℕ) → n ≡ 0 → j ≡ sets j at (olds mem (listed n i))
 unfolding listed olds
@@ -98,7 +98,7 @@ record-written j mem regs ks at n e =
     let a : at + length (olds mem ks) ≡ at + 2 * n = omega (arith, length-olds mem ks) in
     sym (rw (sets-append j at (olds mem ks) (regs ++ (length ks ∷ [])), a, e))
 
--- ---- what a common step comes to
+-- ---- the outcome of a common step
 
 pub comes :
     (m : Machine) (mem j : List ℕ) (t : FastStep)

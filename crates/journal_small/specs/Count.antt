@@ -1,4 +1,4 @@
--- What a common step stores, by the number of its words: none or one.
+-- The stores of a common step: none or one.
 use Prim.Native.Nat.{ℕ, zero, suc, _≤_, _<_}
 use mathlib.Core.Path.{_≡_}
 use mathlib.Core.List.{List, [], _∷_}
@@ -7,7 +7,7 @@ use Rattle.rules.specs.Tests.{pick}
 use Rattle.rules.specs.Memory.{Store, word, touched, stores}
 use Rattle.step_fast.specs.declared.FastStep.{FastStep}
 
--- the words stored to, by their number: none, or the one at i (01, The journal; DECISIONS 54)
+-- the words stored to, by their number: none, or word i (01, The journal; DECISIONS 54)
 unfoldable pub listed : ℕ → ℕ → List ℕ
 listed zero i = []
 listed (suc n) i = i ∷ []

@@ -1,5 +1,6 @@
-// The commit of a common step, whose record has no pair or one, and of a call that changes registers alone. The same words as the commit of a plan
-// would write, with less work.
+// Commits a call that makes no plan: a common step (step_fast), whose record has at most one pair, and a tick, which changes
+// registers alone. Writes the words that the commit of a plan (journal::commit) would write; mirrors `commitOrRefuse` of
+// rules/specs/Calls.antt.
 use journal_record::bounds::EMPTY_RECORD;
 use journal_record::bounds::is_full;
 use journal_record::bounds::refusal;
@@ -23,7 +24,7 @@ ghost use Rattle.rules.specs.Calls.{outcomeOf, commitOrRefuse};
 ghost use Rattle.step_fast.specs.Fast.{fastWork};
 ghost use Rattle.journal_small.specs.Count.{Counted, listed, made};
 
-// The registers with the seven of s.
+// Sets registers 0 to 6 to the values of s.
 fn with_core(regs: [u32; REGISTERS], s: Core) -> [u32; REGISTERS]
     ensures { λ r. ⌜ r ≡ withCore s regs ⌝ }
 {
@@ -48,7 +49,7 @@ fn put_tail(journal: &mut [u32], regs: [u32; REGISTERS], n: u32, at: usize)
     journal[last] = n;
 }
 
-// Writes a pair: the index and what the memory holds there.
+// Writes a pair: the index and the word of memory there.
 fn put_pair(journal: &mut [u32], mem: &[u32], i: u32, at: usize)
     requires { ⌜ (at + 2 ≤ length (now journal)) × (i < length (now mem)) ⌝ }
     ensures { λ _. ⌜ now (journal .exit) ≡ sets (now (journal .entry)) at (i ∷ getD (now (mem .entry)) i 0 ∷ []) ⌝ }
@@ -59,7 +60,7 @@ fn put_pair(journal: &mut [u32], mem: &[u32], i: u32, at: usize)
     journal[next] = mem[k];
 }
 
-// How many words the step stores to, 0 or 1. A store past the end of memory is none.
+// Counts the words that the step stores to, 0 or 1. A store past the end of memory counts 0.
 fn count(t: FastStep, size: usize) -> usize
     ensures { λ r. ⌜ Counted size t r ⌝ }
 {
@@ -73,8 +74,8 @@ fn count(t: FastStep, size: usize) -> usize
     0
 }
 
-// Writes the pair of the word at i and stores v there; nothing where n is 0.
-fn make(mem: &mut [u32], journal: &mut [u32], n: usize, i: u32, v: u32, at: usize)
+// Writes the pair of word i and stores v there; does nothing where n is 0.
+fn store_recorded(mem: &mut [u32], journal: &mut [u32], n: usize, i: u32, v: u32, at: usize)
     requires { ⌜ (at + 2 * n ≤ length (now journal)) × (0 < n → i < length (now mem)) ⌝ }
     ensures { λ _. ⌜ (now (journal .exit) ≡ sets (now (journal .entry)) at (olds (now (mem .entry)) (listed n i))) × (now (mem .exit) ≡ made n i v (now (mem .entry))) ⌝ }
 {
@@ -85,7 +86,7 @@ fn make(mem: &mut [u32], journal: &mut [u32], n: usize, i: u32, v: u32, at: usiz
     }
 }
 
-// A common step made real. In one piece: a machine or a reply that is handed on is copied.
+// Commits a common step. One function and no helpers for machine and reply, since each hand-over would copy them.
 pub fn commit_common(m: Machine, t: FastStep, mem: &mut [u32], journal: &mut [u32]) -> Reply
     requires { ⌜ (length (now journal) ≤ 65536) × (boundsBad (length (now journal)) (m .depth) (m .used) ≡ false) ⌝ }
     ensures { λ r. ⌜ outcomeOf r (now (mem .exit)) (now (journal .exit)) ≡ commitOrRefuse m (now (mem .entry)) (now (journal .entry)) 0 (fastWork (m .regs) t) ⌝ }
@@ -97,7 +98,7 @@ pub fn commit_common(m: Machine, t: FastStep, mem: &mut [u32], journal: &mut [u3
     }
     let old = m.regs;
     let at = used + 2 * n;
-    make(mem, journal, n, t.index, t.value, used);
+    store_recorded(mem, journal, n, t.index, t.value, used);
     put_tail(journal, old, n as u32, at);
     let regs = with_core(old, t.core);
     let machine = Machine {
@@ -112,7 +113,7 @@ pub fn commit_common(m: Machine, t: FastStep, mem: &mut [u32], journal: &mut [u3
     }
 }
 
-// A call that changes registers alone, made real: they become regs.
+// Commits a call that changes registers alone: they become regs.
 pub fn commit_regs(m: Machine, regs: [u32; REGISTERS], mem: &[u32], journal: &mut [u32]) -> Reply
     requires { ⌜ (length (now journal) ≤ 65536) × (boundsBad (length (now journal)) (m .depth) (m .used) ≡ false) ⌝ }
     ensures { λ r. ⌜ outcomeOf r (now (mem .entry)) (now (journal .exit)) ≡ commitOrRefuse m (now (mem .entry)) (now (journal .entry)) 0 (begin regs) ⌝ }

@@ -1,4 +1,4 @@
--- Fresh: the memory that the loop fills, and when the code fits.
+-- Fresh: the memory that the loop fills, and the size of code that fits.
 use mathlib.Core.Path.{_≡_, refl, sym, ap, _∙_}
 use mathlib.Core.Bool.{Bool, true, false, _||_}
 use mathlib.Core.List.{List, append-nil}
@@ -71,7 +71,7 @@ fresh-all code mem n e =
     let h : length mem ≤ 0 + length s = omega arith in
     sets-eq s mem 0 (omega arith) ∙ rw (drop-of-length-le mem h, append-nil s)
 
--- ---- what fresh comes to
+-- ---- the outcome of fresh
 
 module _ (code mem j : List ℕ) where
   pub fresh-size : memorySizeBad (length mem) || journalSizeBad (length j) ≡ true → refused 1 noMachine mem j ≡ fresh code mem j

@@ -1,4 +1,4 @@
-// A fresh machine: memory from the code, and the registers.
+// The memory and registers of a fresh machine (01, Memory and registers). Mirrors the section on fresh of rules/specs/Calls.antt.
 use rules::Machine;
 use rules::REGISTERS;
 use rules::names::*;
@@ -7,7 +7,7 @@ ghost use Prim.Native.Nat.{_<_, _≤_};
 ghost use lib.ListN.{length, getD};
 ghost use Rattle.rules.specs.Calls as calls;
 
-// Whether n bytes of code do not fit a memory of size words: none, or no whole word left after them. Nothing wraps.
+// Tests for CodeSize: no code, or no whole word left after n bytes of code in a memory of size words.
 pub fn code_bad(size: usize, n: usize) -> bool
     requires { ⌜ (64 ≤ size) × (size ≤ 16384) ⌝ }
     ensures { λ r. ⌜ r ≡ calls.codeBad size n ⌝ }
@@ -18,7 +18,7 @@ pub fn code_bad(size: usize, n: usize) -> bool
     4 * (size - MEM_START_WORD - 1) < n
 }
 
-// Byte k of the code, 0 past its end.
+// Returns byte k of the code, 0 past its end.
 fn code_byte(code: &[u8], k: usize) -> u32
     ensures { λ r. ⌜ (r ≡ getD (now (code .entry)) k 0) × (r < 256) ⌝ }
 {
@@ -28,7 +28,7 @@ fn code_byte(code: &[u8], k: usize) -> u32
     0
 }
 
-// Word k of the code.
+// Returns word k of the code; byte 0 is the least significant.
 fn code_word(code: &[u8], k: usize) -> u32
     requires { ⌜ k ≤ 16384 ⌝ }
     ensures { λ r. ⌜ r ≡ calls.codeWord (now (code .entry)) k ⌝ }
@@ -41,7 +41,7 @@ fn code_word(code: &[u8], k: usize) -> u32
     b0 + 256 * b1 + 65536 * b2 + 16777216 * b3
 }
 
-// Word i of a fresh memory.
+// Returns word i of a fresh memory: NotProcess.p in words 0 to 11, the code at MemStart, else 0.
 fn fresh_word(code: &[u8], i: usize) -> u32
     requires { ⌜ i ≤ 16384 ⌝ }
     ensures { λ r. ⌜ r ≡ calls.freshWord (now (code .entry)) i ⌝ }
@@ -55,7 +55,7 @@ fn fresh_word(code: &[u8], i: usize) -> u32
     code_word(code, i - MEM_START_WORD)
 }
 
-// Makes memory anew.
+// Fills memory: every word, from the code.
 pub fn fill(mem: &mut [u32], code: &[u8])
     requires { ⌜ length (now mem) ≤ 16384 ⌝ }
     ensures { λ _. ⌜ now (mem .exit) ≡ calls.freshMemory (now (code .entry)) 0 (length (now (mem .entry))) ⌝ }
@@ -69,7 +69,7 @@ pub fn fill(mem: &mut [u32], code: &[u8])
     }
 }
 
-// The registers with n bytes of code.
+// Returns the registers for n bytes of code: Iptr at MemStart, Wptr after the code at low priority, both queues empty.
 fn fresh_regs(n: usize) -> [u32; REGISTERS]
     requires { ⌜ n ≤ 65536 ⌝ }
     ensures { λ r. ⌜ r ≡ calls.freshRegs n ⌝ }
@@ -96,7 +96,7 @@ pub fn fresh_machine(n: usize) -> Machine
     }
 }
 
-// What a refused fresh hands back.
+// Returns the machine of a refused fresh: all 0.
 pub fn no_machine() -> Machine
     ensures { λ r. ⌜ r ≡ calls.noMachine ⌝ }
 {

@@ -1,4 +1,4 @@
--- The lengths that the contracts of the comparison program cite. Assumes nothing.
+-- The lengths of t414_batch, for contracts: of cases, responses and buffers.
 use Prim.Native.Nat.{ℕ, _+_, _*_}
 use Rattle.rules.specs.Registers.{registers}
 

@@ -1,9 +1,10 @@
-// Numbers of 01 for the programs: those of the answers, and how long a run is.
+// Numbers of 01: of the answers (Answers by number), and of the steps of a run (Numbers at the edges).
 use rules::Answer;
 ghost use Prim.Native.Nat.{_≤_};
 ghost use mathlib.Core.Path.{_≡_};
 ghost use Rattle.rules.specs.Calls.{numberOf};
 
+// Returns 01's number of an answer.
 pub fn number_of(a: Answer) -> u32
     ensures { λ r. ⌜ r ≡ numberOf a ⌝ }
 {
@@ -24,7 +25,7 @@ pub fn number_of(a: Answer) -> u32
     }
 }
 
-// Counts an accepted call.
+// Returns 1 for an accepted call, else 0.
 pub fn one_if_done(a: Answer) -> u64
     ensures { λ r. ⌜ r ≤ 1 ⌝ }
 {
@@ -34,7 +35,7 @@ pub fn one_if_done(a: Answer) -> u64
     }
 }
 
-// The most steps that the program of 01 makes.
+// The most steps of a run of t414_run.
 const MOST_STEPS: u64 = 100;
 
 pub fn most_steps() -> u64

@@ -1,13 +1,13 @@
-// Words and bytes.
+// Words to bytes and back, little-endian.
 ghost use Prim.Native.Nat.{_+_, _*_, _≤_};
 ghost use lib.ListN.{length};
 
-// The word of four bytes, the lowest first.
+// Joins four bytes to a word, the lowest first.
 fn word(a: u8, b: u8, c: u8, d: u8) -> u32 {
     (a as u32) | ((b as u32) << 8) | ((c as u32) << 16) | ((d as u32) << 24)
 }
 
-// Fills dst with the words of src from the byte k on.
+// Fills dst with the words of src from byte k on.
 pub(crate) fn take_words(src: &[u8], k: usize, dst: &mut [u32])
     requires { ⌜ k + 4 * length (now dst) ≤ length (now src) ⌝ }
 {
@@ -28,7 +28,7 @@ fn put_word(dst: &mut [u8], k: usize, x: u32)
     dst[k + 3] = ((x >> 24) % 256) as u8;
 }
 
-// Lays the words of src out in dst from the byte k on.
+// Writes the words of src into dst from byte k on.
 pub(crate) fn give_words(src: &[u32], dst: &mut [u8], k: usize)
     requires { ⌜ k + 4 * length (now src) ≤ length (now dst) ⌝ }
 {
@@ -39,7 +39,7 @@ pub(crate) fn give_words(src: &[u32], dst: &mut [u8], k: usize)
     }
 }
 
-// Moves n bytes of s from the byte at on to its start.
+// Moves the n bytes of s from byte at on to its start.
 pub(crate) fn move_down(s: &mut [u8], at: usize, n: usize)
     requires { ⌜ at + n ≤ length (now s) ⌝ }
 {

@@ -1,4 +1,4 @@
-// One case: its head, its machine, and the response.
+// One case of t414_batch: its head, its machine, and its response.
 use crate::answers;
 use crate::bytes::give_words;
 use crate::bytes::take_words;
@@ -29,8 +29,7 @@ const RESPONSE_HEAD: usize = 8 + 16 + 4 * rules::REGISTERS;
 
 pub(crate) const MOST_RESPONSE: usize = RESPONSE_HEAD + 4 * WORDS + 4 * JOURNAL;
 
-// What comes next: a case may be looked for, input is wanted, or there is a reason to stop. Numbers, since an enum takes longer
-// to prove.
+// The state of the loop: look for a case, read input, or a reason to stop. Numbers, since an enum takes longer to prove.
 pub const LOOK: u32 = 0;
 
 pub(crate) const READ: u32 = 1;
@@ -47,8 +46,8 @@ pub(crate) const TOO_SHORT: u32 = 6;
 
 pub(crate) const UNWRITTEN: u32 = 7;
 
-// What a case asks for. Of its size bytes in all from..end are its code, of which the T414's begins at code. With a state other
-// than LOOK it cannot be answered.
+// The head of a case of size bytes. Its bytes from..end are its code, and the T414's code begins at code. A case with a state other
+// than LOOK cannot be answered.
 pub struct Head {
     pub call: u32,
     pub channel: u32,
@@ -62,7 +61,8 @@ pub struct Head {
     pub state: u32,
 }
 
-// Whether a case that asks for this can be answered, where room bytes of its size are read.
+// Returns LOOK where the case is whole and within the limits, READ where more input is wanted, else the reason to stop. room is
+// the number of bytes read.
 fn judged(
     call: u32,
     words: usize,
@@ -95,7 +95,7 @@ fn judged(
     LOOK
 }
 
-// Bytes before the T414's code.
+// Returns the number of bytes before the T414's code.
 fn before_code(call: u32) -> usize
     ensures { λ r. ⌜ r ≤ 20 ⌝ }
 {
@@ -105,7 +105,7 @@ fn before_code(call: u32) -> usize
     0
 }
 
-// What the first six numbers of a case ask for, where room bytes of it are read.
+// Makes the head of a case from its first six numbers; room bytes of the case are read.
 fn asked(
     call: u32,
     channel: u32,
@@ -137,8 +137,8 @@ fn asked(
     }
 }
 
-// The case at the place at, if it is whole and within the limits. Where its head is not read, zeros stand for it, and the rest
-// is wanted.
+// Reads the head of the case at byte at of input. Where fewer than 24 bytes are read, zeros stand for the numbers, and the state
+// is READ.
 pub fn look(input: &[u8], at: usize, end: usize) -> Head
     requires { ⌜ (at ≤ end) × (end ≤ length (now input)) ⌝ }
     ensures { λ r. ⌜ (r .state ≡ 0 → (at + r .size ≤ end) × (r .words ≤ mostWords) × (r .journal ≤ mostJournal) × (r .from ≡ caseHead + 4 * r .words + 4 * r .journal) × (r .from ≤ r .code) × (r .code ≤ r .end) × (r .end ≤ r .size)) ⌝ }
@@ -151,7 +151,7 @@ pub fn look(input: &[u8], at: usize, end: usize) -> Head
     asked(w[0], w[1], w[2], w[3], w[4], w[5], room)
 }
 
-// The numbers before the code of a repeat; else zeros.
+// The numbers before the code of a repeat; zeros for any other call.
 pub struct Counts {
     pub before: u32,
     pub rounds: u32,
@@ -160,7 +160,7 @@ pub struct Counts {
     pub undos: u32,
 }
 
-// The numbers from..code of input.
+// Reads the numbers of a repeat from the bytes from..code of input.
 pub fn counted(input: &[u8], from: usize, code: usize) -> Counts
     requires { ⌜ (from ≤ code) × (code ≤ length (now input)) ⌝ }
     ensures { λ r. ⌜ (from ≡ code → r .rounds ≡ 0) ⌝ }
@@ -185,13 +185,13 @@ pub fn counted(input: &[u8], from: usize, code: usize) -> Counts
     }
 }
 
-// A number of 64 bits of its two words.
+// Joins two words to a number of 64 bits.
 fn long(low: u32, high: u32) -> usize {
     (low as usize) | ((high as usize) << 32)
 }
 
-// The machine of the case at the byte at of input, as if a call had left it.
-fn begun(input: &[u8], at: usize) -> Reply
+// Reads the machine of the case at byte at of input, as the reply of an accepted call.
+fn read_machine(input: &[u8], at: usize) -> Reply
     requires { ⌜ at + caseHead ≤ length (now input) ⌝ }
 {
     let mut w = [0u32; 4];
@@ -210,7 +210,7 @@ fn begun(input: &[u8], at: usize) -> Reply
     }
 }
 
-// Takes the case at the byte at of input: its machine, and its words into mem and journal, which are as long as the case says.
+// Loads the case at byte at of input: returns its machine, and fills mem and journal, which are as long as the case says.
 pub fn load(input: &[u8], at: usize, mem: &mut [u32], journal: &mut [u32]) -> Reply
     requires { ⌜ at + caseHead + 4 * length (now mem) + 4 * length (now journal) ≤ length (now input) ⌝ }
     ensures { λ r. ⌜ (length (now (mem .exit)) ≡ length (now (mem .entry))) × (length (now (journal .exit)) ≡ length (now (journal .entry))) ⌝ }
@@ -218,10 +218,10 @@ pub fn load(input: &[u8], at: usize, mem: &mut [u32], journal: &mut [u32]) -> Re
     let second = at + CASE_HEAD + 4 * mem.len();
     take_words(input, at + CASE_HEAD, mem);
     take_words(input, second, journal);
-    begun(input, at)
+    read_machine(input, at)
 }
 
-// The head of a response: all but the words of memory and journal.
+// Writes the head of a response: all but the words of memory and journal.
 fn give_reply(r: Reply, output: &mut [u8], out: usize)
     requires { ⌜ out + responseHead ≤ length (now output) ⌝ }
 {
@@ -240,7 +240,7 @@ fn give_reply(r: Reply, output: &mut [u8], out: usize)
     give_words(&regs, output, out + 24);
 }
 
-// Writes the response at the byte out of output, and answers where it ends.
+// Writes a response at byte out of output; returns its end.
 pub(crate) fn respond(
     r: Reply,
     mem: &[u32],

@@ -1,7 +1,8 @@
-// HEAD program_io
-pub mod answers; // Numbers of 01 for the programs: those of the answers, and how long a run is.
-pub mod lines; // The line that the program of 01 prints: three hex numbers and three decimal ones.
-pub mod bytes; // Words and bytes.
-pub mod case; // One case: its head, its machine, and the response.
-pub mod place; // The buffers of the comparison program: what is unread of its input, and unwritten of its output.
-pub mod room; // The buffers of the program, all zeros. Each is made by a function that tells its length alone, so that no caller has
+// What the programs read and write: the line of t414_run (01, Numbers at the edges), the cases and responses of t414_batch
+// (docs/TESTING.md, The batch protocol). It makes no public call.
+pub mod answers; // numbers of the answers, steps of a run
+pub mod lines; // t414_run: the line it prints
+pub mod bytes; // words to bytes and back
+pub mod case; // t414_batch: one case and its response
+pub mod place; // t414_batch: reading, writing, reasons to stop
+pub mod room; // t414_batch: the buffers

@@ -1,14 +1,14 @@
-// The line that the program of 01 prints: three hex numbers and three decimal ones.
+// The line that t414_run prints (01, Numbers at the edges): three hex numbers and three decimal ones.
 use rules::Machine;
 use rules::names::*;
 ghost use mathlib.Core.Path.{_≡_};
 ghost use Prim.Native.Nat.{_+_, _≤_, _<_};
 ghost use lib.ListN.{length};
 
-// Places of the longest line, and some more.
+// The size of the buffer; the longest line is shorter.
 const LINE: usize = 96;
 
-// The places of a line up to size, its end of line included.
+// A line: the first size bytes of text, with the end of line.
 pub struct Written {
     pub text: [u8; LINE],
     pub size: usize,
@@ -18,14 +18,14 @@ fn wide(x: u32) -> u64 {
     x as u64
 }
 
-// The digit d, as the line has it; the kit's hex is in lower case.
+// Returns the digit d, in upper case; io's hex is in lower case.
 fn glyph(d: u64) -> u8
     requires { ⌜ d < 16 ⌝ }
 {
     if d < 10 { 48 + d as u8 } else { 55 + d as u8 }
 }
 
-// The last k digits of x in base, from the place at on.
+// Writes the last k digits of x in a base, from byte at on.
 fn put_digits(line: &mut [u8], at: usize, k: usize, x: u64, base: u64)
     requires { ⌜ (at + k ≤ length (now line)) × (0 < base) × (base ≤ 16) ⌝ }
 {
@@ -38,7 +38,7 @@ fn put_digits(line: &mut [u8], at: usize, k: usize, x: u64, base: u64)
     }
 }
 
-// How many decimal digits x has; no u64 has more than 20.
+// Counts the decimal digits of x; a u64 has at most 20.
 fn places(x: u64) -> usize
     ensures { λ r. ⌜ r ≤ 20 ⌝ }
 {
@@ -51,7 +51,7 @@ fn places(x: u64) -> usize
     k
 }
 
-// The number x from the place at on; answers the place after it.
+// Writes x in decimal from byte at on; returns its end.
 fn put_decimal(line: &mut [u8], at: usize, x: u64) -> usize
     requires { ⌜ at + 20 ≤ length (now line) ⌝ }
     ensures { λ r. ⌜ r ≤ at + 20 ⌝ }
@@ -61,7 +61,7 @@ fn put_decimal(line: &mut [u8], at: usize, x: u64) -> usize
     at + k
 }
 
-// A, B and C, each eight hex digits with a place between.
+// Writes A, B and C, each as eight hex digits with a space between.
 fn put_stack(line: &mut [u8], stack: [u32; 3])
     requires { ⌜ length (now line) ≡ 96 ⌝ }
 {
@@ -70,7 +70,7 @@ fn put_stack(line: &mut [u8], stack: [u32; 3])
     put_digits(line, 18, 8, wide(stack[2]), 16);
 }
 
-// The line starts as spaces, so each field only has to leave one place free before the next. Answers the line's length.
+// Writes the fields and the end of line into a line of spaces, one space between two fields; returns the line's length.
 fn put_line(line: &mut [u8], stack: [u32; 3], steps: u64, used: u64, refusal: u64) -> usize
     requires { ⌜ length (now line) ≡ 96 ⌝ }
     ensures { λ r. ⌜ r ≤ 96 ⌝ }
@@ -83,7 +83,7 @@ fn put_line(line: &mut [u8], stack: [u32; 3], steps: u64, used: u64, refusal: u6
     end + 1
 }
 
-// The line of a run that ends at the machine m: A, B, C, the accepted steps, the journal words used, and the refusal.
+// Makes the line of a run that ends at the machine m: A, B, C, the accepted steps, the journal words used, the refusal.
 pub fn line(m: Machine, steps: u64, refusal: u32) -> Written
     ensures { λ r. ⌜ r .size ≤ length (r .text) ⌝ }
 {

@@ -1,4 +1,4 @@
-// The buffers of the comparison program: what is unread of its input, and unwritten of its output.
+// Reading and writing of t414_batch: the place in its input and output buffers, and the reasons to stop.
 use crate::bytes::move_down;
 use crate::case;
 use crate::case::respond;
@@ -8,7 +8,7 @@ ghost use mathlib.Core.Path.{_≡_};
 ghost use lib.ListN.{length};
 ghost use Rattle.program_io.specs.Sizes.{mostWords, mostJournal, mostResponse};
 
-// input[at..end] is unread, output[..out] is unwritten, and count cases are answered.
+// input[at..end] is not answered yet, output[..out] is not written yet, and count cases are answered.
 pub struct Place {
     pub at: usize,
     pub end: usize,
@@ -17,7 +17,7 @@ pub struct Place {
     pub state: u32,
 }
 
-// Where a run begins: nothing is read, so that no case is found.
+// Returns the place where the program begins: nothing is read.
 pub fn start() -> Place
     ensures { λ r. ⌜ (r .at ≡ 0) × (r .end ≡ 0) × (r .out ≡ 0) ⌝ }
 {
@@ -30,7 +30,7 @@ pub fn start() -> Place
     }
 }
 
-// One read, of at most as many bytes as buf has.
+// Reads once, at most as many bytes as buf has; returns their number.
 fn read_some(buf: &mut [u8]) -> usize
     ensures { λ r. ⌜ r ≤ length (now (buf .exit)) ⌝ }
 {
@@ -38,7 +38,7 @@ fn read_some(buf: &mut [u8]) -> usize
     io::count(got, buf)
 }
 
-// What to do after a read of got bytes, where kept are unread.
+// Returns the state after a read of got bytes, where kept bytes were left.
 fn after_read(kept: usize, got: usize) -> u32 {
     if got > 0 {
         case::LOOK
@@ -49,7 +49,7 @@ fn after_read(kept: usize, got: usize) -> u32 {
     }
 }
 
-// Where input is wanted, moves the unread bytes to the front and reads more after them. Where none come, the input has ended.
+// Where input is wanted, moves the bytes left to the front of the buffer and reads more after them.
 fn refill(p: Place, input: &mut [u8]) -> Place
     requires { ⌜ (p .at ≤ p .end) × (p .end ≤ length (now input)) ⌝ }
     ensures { λ r. ⌜ (r .at ≤ r .end) × (r .end ≤ length (now (input .exit))) × (r .out ≡ p .out) ⌝ }
@@ -71,7 +71,7 @@ fn refill(p: Place, input: &mut [u8]) -> Place
     }
 }
 
-// Writes what is unwritten.
+// Writes the responses in the output buffer.
 fn flush(p: Place, output: &[u8]) -> Place
     requires { ⌜ p .out ≤ length (now output) ⌝ }
     ensures { λ r. ⌜ (r .at ≡ p .at) × (r .end ≡ p .end) × (r .out ≡ 0) ⌝ }
@@ -88,7 +88,7 @@ fn flush(p: Place, output: &[u8]) -> Place
     }
 }
 
-// Makes room for any response.
+// Flushes the output buffer where the longest response does not fit.
 fn make_room(p: Place, output: &[u8]) -> Place
     requires { ⌜ (p .out ≤ length (now output)) × (mostResponse ≤ length (now output)) ⌝ }
     ensures { λ r. ⌜ (r .at ≡ p .at) × (r .end ≡ p .end) × (r .out + mostResponse ≤ length (now (output .entry))) ⌝ }
@@ -99,7 +99,7 @@ fn make_room(p: Place, output: &[u8]) -> Place
     p
 }
 
-// Reads where input is wanted, and writes where there is no room for a response.
+// Reads where input is wanted, and flushes where the longest response does not fit.
 pub fn ready(p: Place, input: &mut [u8], output: &[u8]) -> Place
     requires { ⌜ (p .at ≤ p .end) × (p .end ≤ length (now input)) × (p .out ≤ length (now output)) × (mostResponse ≤ length (now output)) ⌝ }
     ensures { λ r. ⌜ (r .at ≤ r .end) × (r .end ≤ length (now (input .exit))) × (r .out + mostResponse ≤ length (now (output .entry))) ⌝ }
@@ -107,7 +107,7 @@ pub fn ready(p: Place, input: &mut [u8], output: &[u8]) -> Place
     make_room(refill(p, input), output)
 }
 
-// The place after a case of size bytes, whose response ends before the byte out of output.
+// Returns the place after a case of size bytes, whose response ends at byte out of output.
 fn after(p: Place, size: usize, out: usize) -> Place
     requires { ⌜ p .at + size ≤ p .end ⌝ }
     ensures { λ r. ⌜ (r .at ≤ r .end) × (r .end ≡ p .end) × (r .out ≡ out) ⌝ }
@@ -121,7 +121,7 @@ fn after(p: Place, size: usize, out: usize) -> Place
     }
 }
 
-// Writes the response to a case of size bytes, and goes on to the place after it.
+// Writes the response to a case of size bytes; returns the place after it.
 pub fn answered(
     p: Place,
     size: usize,
@@ -137,7 +137,7 @@ pub fn answered(
     after(p, size, out)
 }
 
-// The place with another state.
+// Returns the place with another state.
 pub fn held(p: Place, state: u32) -> Place
     ensures { λ r. ⌜ (r .at ≡ p .at) × (r .end ≡ p .end) × (r .out ≡ p .out) ⌝ }
 {
@@ -150,7 +150,7 @@ pub fn held(p: Place, state: u32) -> Place
     }
 }
 
-// The turns of the program's loop that are left: none where there is a reason to stop.
+// Returns the turns left of the program's loop: 0 where there is a reason to stop.
 pub fn next(p: Place, turns: u64) -> u64
     requires { ⌜ 0 < turns ⌝ }
     ensures { λ r. ⌜ r < turns ⌝ }
@@ -158,7 +158,7 @@ pub fn next(p: Place, turns: u64) -> u64
     if p.state == case::LOOK { turns - 1 } else { 0 }
 }
 
-// One line that names the case after the answered ones.
+// Writes a line on standard error that names the case after the answered ones.
 fn complain(count: u64, what: &[u8]) {
     io::write_all(2, b"t414_batch: case ");
     io::print_decimal(2, std::num::wrapping_add_u64(count, 1));
@@ -166,6 +166,7 @@ fn complain(count: u64, what: &[u8]) {
     io::write_all(2, what);
 }
 
+// Reports the reason to stop, unless the input ended.
 fn report(p: Place) {
     let state = p.state;
     match state {
@@ -181,7 +182,7 @@ fn report(p: Place) {
     }
 }
 
-// Writes what is unwritten, and says why the run ended, if not with the input.
+// Flushes the output buffer and reports the reason to stop.
 pub fn finish(p: Place, output: &[u8]) -> Place
     requires { ⌜ p .out ≤ length (now output) ⌝ }
     ensures { λ r. ⌜ (r .at ≡ p .at) × (r .end ≡ p .end) × (r .out ≡ 0) ⌝ }

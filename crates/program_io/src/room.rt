@@ -1,12 +1,12 @@
-// The buffers of the program, all zeros. Each is made by a function that tells its length alone, so that no caller has
-// to compute with so many zeros.
+// The buffers of t414_batch, all zeros. Each function's contract gives the length alone, so that no proof of a caller
+// computes with so many zeros.
 use crate::case::JOURNAL;
 use crate::case::WORDS;
 ghost use mathlib.Core.Path.{_≡_};
 ghost use lib.ListN.{length};
 ghost use Rattle.program_io.specs.Sizes.{mostWords, mostJournal, block};
 
-// Bytes of the input, and of the output; the longest case and the longest response have fewer.
+// The bytes of the input buffer, and of the output buffer; the longest case and the longest response have fewer.
 pub const BLOCK: usize = 524288;
 
 pub fn bytes() -> [u8; BLOCK]

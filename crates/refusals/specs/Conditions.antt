@@ -85,7 +85,7 @@ isBuilt k =
     || (leb 0x29 k && leb k 0x2C)
     || (leb 0x2E k && leb k 0x59)
 
--- the byte at Iptr, which (c) fetches (01, One step)
+-- the instruction byte, at Iptr (01, One step (c))
 abbrev pub nextByte : List ℕ → List ℕ → ℕ
 nextByte r mem = byteAt mem (getD r iptrReg 0) (begin r)
 
@@ -105,12 +105,12 @@ isUnlisted r mem = operates r mem && not (isBuilt (nextCode r mem))
 abbrev pub pointerOutside : ℕ → List ℕ → List ℕ → Bool
 pointerOutside c r mem = isMoving c r && leb (length mem) (index (getD r (pointerReg c) 0))
 
--- what a step that is not halted answers: (a), (b) or (c) makes its accesses in 000's order; the first one outside memory makes it
--- 10, the first Stop 11, and nothing is accessed after it (01, Answers by number; DECISIONS 25, 44)
+-- the answer of the work of a step that is not halted: (a), (b) or (c) makes its accesses in 000's order; the first access outside memory
+-- makes it 10, the first Stop makes it 11 (01, Answers by number; DECISIONS 25, 44)
 abbrev pub ownAnswer : List ℕ → List ℕ → ℕ
 ownAnswer r mem = steps.choose mem (begin r) .answer
 
--- 10 Outside, of step: its own work ends with 10, for a fetch, load or store outside memory (01, Answers by number; DECISIONS 25, 57)
+-- 10 Outside, of step: its work ends with 10, for a fetch, load or store outside memory (01, Answers by number; DECISIONS 25, 57)
 abbrev pub stepOutside : List ℕ → List ℕ → Bool
 stepOutside r mem = eqb (ownAnswer r mem) 10
 
@@ -128,7 +128,7 @@ serviceStops r mem =
 unfoldable pub stops : List ℕ → List ℕ → Bool
 stops r mem = pick (fetches r) (operationStops r mem) (serviceStops r mem)
 
--- 12 JournalFull: a record of so many pairs does not fit after used (01, Answers by number; 01, The journal)
+-- 12 JournalFull: a record with this number of pairs does not fit after used (01, Answers by number; 01, The journal)
 abbrev pub full : ℕ → Machine → List ℕ → Bool
 full pairs m j = ltb (length j) (m .used + recordLength pairs)
 

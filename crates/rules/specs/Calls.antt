@@ -1,8 +1,8 @@
--- The eight public calls: from any machine, memory, journal and arguments to the answer, the byte, and what machine, memory and journal are
--- afterwards. Each call's checks run in the order of 01's table (Answers by number).
-use Prim.Native.Nat.{ℕ, zero, suc, _+_, _-_, _*_, _/_, _%_}
-use mathlib.Core.Bool.{Bool, true, false, _||_}
-use mathlib.Core.List.{List, [], _∷_, _++_}
+-- The eight public calls: from any machine, memory, journal and arguments to the outcome. The checks of a call run in the order of 01's table
+-- (Answers by number).
+use Prim.Native.Nat.{ℕ, zero, suc, _+_, _-_, _*_, _/_}
+use mathlib.Core.Bool.{Bool, false, _||_}
+use mathlib.Core.List.{List, [], _∷_}
 use lib.Bits.{bitOr}
 use lib.Dec.{ltb, leb, eqb}
 use lib.ListN.{length, getD, set, replicate}
@@ -38,7 +38,7 @@ numberOf Outside = 10
 numberOf Stop = 11
 numberOf JournalFull = 12
 
--- what a call comes to: all that a contract determines (01, What the contracts have to say)
+-- the outcome of a call: all that a contract determines (01, What the contracts have to say)
 pub record Outcome : Type 0 where
   -- the number of the refusal, 0 where the call is accepted (01, Answers by number)
   pub answer : ℕ
@@ -51,12 +51,12 @@ pub record Outcome : Type 0 where
   -- the lent words of the journal afterwards (01, The journal)
   pub journal : List ℕ
 
--- what the code of a call hands back: its reply, and the lent words as they then are (DECISIONS 45)
+-- the outcome that the code of a call returns: its reply, and the lent words after it (DECISIONS 45)
 abbrev pub outcomeOf : Reply → List ℕ → List ℕ → Outcome
 outcomeOf r mem j =
     record { answer = numberOf (r .answer); byte = r .byte; machine = r .machine; memory = mem; journal = j }
 
--- a refusal alters nothing, and its byte is 0 (01, Answers by number)
+-- the outcome of a refused call: nothing is changed, and the byte is 0 (01, Answers by number)
 abbrev pub refused : ℕ → Machine → List ℕ → List ℕ → Outcome
 refused n m mem j = record { answer = n; byte = 0; machine = m; memory = mem; journal = j }
 
@@ -80,7 +80,7 @@ sizeBad mem j = memorySizeBad (length mem) || journalSizeBad (length j)
 
 -- ---- step, tick, take, give, event
 
--- an accepted call with its record (01, The journal); 12 JournalFull where that does not fit after used (01, Answers by number)
+-- an accepted call, its record written at used (01, The journal); 12 JournalFull where the record does not fit (01, Answers by number)
 unfoldable pub recorded : Machine → List ℕ → List ℕ → ℕ → List ℕ → List ℕ → List ℕ → Outcome
 recorded m mem j byte regs ks after =
     ifLt (length j) (m .used + recordLength (length ks)) (refused 12 m mem j)
@@ -92,14 +92,14 @@ recorded m mem j byte regs ks after =
       journal = sets j (m .used) (recordOf mem (m .regs) ks);
     })
 
--- what worked-out work comes to: its refusal, or the accepted call, which only 12 can still refuse (DECISIONS 25, 44)
+-- commits the work of a call, or refuses with the number of the work; a commit can still be refused with 12 (DECISIONS 25, 44)
 unfoldable pub commitOrRefuse : Machine → List ℕ → List ℕ → ℕ → Work → Outcome
 commitOrRefuse m mem j byte w =
     ifEq (w .answer) 0
     (recorded m mem j byte (w .regs) (touched (length mem) (w .stored)) (stores mem (w .stored)))
     (refused (w .answer) m mem j)
 
--- the checks before a call's own, in the order of the table: 1 Size, 3 BadChannel, 4 JournalBad (01, Answers by number)
+-- the checks before the work of a call, in the order of the table: 1 Size, 3 BadChannel, 4 JournalBad (01, Answers by number)
 unfoldable pub checked : Bool → Machine → List ℕ → List ℕ → Outcome → Outcome
 checked badChannel m mem j o =
     pick (sizeBad mem j) (refused 1 m mem j)
@@ -122,7 +122,7 @@ step m mem j = checked false m mem j (commitOrRefuse m mem j 0 (steps.step mem (
 unfoldable pub tick : Machine → List ℕ → List ℕ → Outcome
 tick m mem j = checked false m mem j (commitOrRefuse m mem j 0 (links.tick (begin (m .regs))))
 
--- take (01, Links, clocks, slice); the byte is that at the pointer
+-- take (01, Links, clocks, slice); its byte is the byte at the pointer
 unfoldable pub take : ℕ → Machine → List ℕ → List ℕ → Outcome
 take c m mem j =
     checked (notOutput c) m mem j
@@ -138,7 +138,7 @@ event m mem j = checked false m mem j (commitOrRefuse m mem j 0 (links.event (be
 
 -- ---- undo (01, The journal)
 
--- the last record's pairs and registers brought back (01, The journal); 4 where a pair's index is N or more (01, Answers by number)
+-- registers and memory restored from the last record (01, The journal); 4 where a pair's index is N or more (01, Answers by number)
 unfoldable pub undone : Machine → List ℕ → List ℕ → List (ℕ × ℕ) → Outcome
 undone m mem j pairs =
     pick (strays (length mem) pairs) (refused 4 m mem j)
@@ -150,7 +150,7 @@ undone m mem j pairs =
       journal = j;
     })
 
--- 4 JournalBad of undo with depth above 0, then the undo (01, Answers by number)
+-- undo with depth above 0: 4 JournalBad where the last record is longer than used, then the undo (01, Answers by number)
 unfoldable pub undoLast : Machine → List ℕ → List ℕ → Outcome
 undoLast m mem j =
     ifLt (m .used) (recordLength (lastPairs j (m .used))) (refused 4 m mem j)
@@ -170,7 +170,7 @@ clear m mem j =
 
 -- ---- fresh (01, Memory and registers)
 
--- words that n bytes of code take: Wptr is the first word boundary at or after its end (01, Memory and registers)
+-- the words of n bytes of code: Wptr is the first word boundary at or after the end of the code (01, Memory and registers)
 abbrev pub codeWords : ℕ → ℕ
 codeWords n = (n + 3) / 4
 
@@ -203,7 +203,7 @@ freshRegs n =
 unfoldable pub codeBad : ℕ → ℕ → Bool
 codeBad size n = eqb n 0 || leb size (memStartWord + codeWords n)
 
--- the machine of a fresh that is refused: all 0 (01, Answers by number)
+-- the machine of a refused fresh: all 0 (01, Answers by number)
 abbrev pub noMachine : Machine
 noMachine = machineOf (replicate registers 0) 0 0
 

@@ -13,7 +13,7 @@ use Rattle.rules.specs.Links.{eventMeets, receive}
 
 -- ---- requests
 
--- of the n channels from c on, the lowest with a run or a ready request; 9 where there is none (01, One step (a))
+-- the lowest channel with a run or a ready request, of the n channels from c on; 9 where there is none (01, One step (a))
 unfoldable pub requestFrom : ℕ → ℕ → Work → ℕ
 requestFrom c zero w = linkChans
 requestFrom c (suc n) w =
@@ -63,7 +63,7 @@ module _ (m : List ℕ) where
   unfoldable pub handleReadyRequest : ℕ → Work → Work
   handleReadyRequest hc w = readWord m (atWord portBase hc) readyContent w
 
-  -- the run request is served before the ready request, and that bit is cleared (01, One step)
+  -- the run request is served before the ready request; the bit of the one that is served is cleared (01, One step)
   unfoldable pub handleChannelRequest : ℕ → Work → Work
   handleChannelRequest hc w =
       ifSet runRequest (reg (channelReg hc) w) (handleRunRequest hc (lower (channelReg hc) runRequest w))
@@ -79,15 +79,15 @@ module _ (m : List ℕ) where
   unfoldable pub hardOutput : ℕ → Work → Work
   hardOutput c w = ifEq (reg areg w) 0 w (gotoSNP (hardStart c w))
 
-  -- what a give or an event would do with what is held (01, Links, clocks, slice; DECISIONS 29)
+  -- the transfer meets the byte or event held, as it would a give or an event (01, Links, clocks, slice; DECISIONS 29)
   unfoldable pub meetHeld : ℕ → Work → Work
   meetHeld c w = ifEq c eventChannel (eventMeets w) (receive m c (heldByte (reg (channelReg c) w)) w)
 
-  -- an `in` that finds something held (01, Links, clocks, slice; DECISIONS 29)
+  -- an `in` that finds a byte or an event held (01, Links, clocks, slice; DECISIONS 29)
   unfoldable pub hardInputHeld : ℕ → Work → Work
   hardInputHeld c w = gotoSNP (meetHeld c (lower (channelReg c) heldBit (hardStart c w)))
 
-  -- an `in` on channels 4 to 8 that finds something held (DECISIONS 29); any other transfer ignores held
+  -- of the transfers only an `in` on channels 4 to 8 looks at the held bit (DECISIONS 29)
   unfoldable pub hardInputStart : ℕ → Work → Work
   hardInputStart c w =
       ifLt c 4 (gotoSNP (hardStart c w))
@@ -166,7 +166,7 @@ module _ (m : List ℕ) where
 
   -- ---- operations
 
-  -- output word, output byte: the count is given (DECISIONS 42)
+  -- output word and output byte, by their count (DECISIONS 42)
   unfoldable pub outputLocal : ℕ → Work → Work
   outputLocal count w = output (put creg (wptr w) (put areg count (wIndexWord m (wptr w) 0 (reg areg w) w)))
 
@@ -226,7 +226,7 @@ module _ (m : List ℕ) where
   enbcSoft content w =
       ifEq content notProcess (claimChannel w) (ifEq content (reg wdescReg w) w (stateReady w))
 
-  -- a byte held is ready at once; with none held enabled is set (DECISIONS 30)
+  -- a hard channel with a byte held is ready at once; with none held, enabled is set (DECISIONS 30)
   unfoldable pub enbcHard : ℕ → Work → Work
   enbcHard c w =
       ifSet heldBit (reg (channelReg c) w) (stateReady w) (claimChannel (raise (channelReg c) enabledBit w))
@@ -237,7 +237,7 @@ module _ (m : List ℕ) where
       ifLt (index (reg breg w)) linkChans (enbcHard (index (reg breg w)) w)
       (readWord m (atWord (reg breg w) 0) enbcSoft w)
 
-  -- only where Areg is not FALSE (000 1.11; DECISIONS 13)
+  -- the guard is enabled only where Areg is not FALSE (000 1.11; DECISIONS 13)
   unfoldable pub enbcGuard : Work → Work
   enbcGuard w = ifEq (reg areg w) 0 w (enbcChannel w)
 

@@ -18,7 +18,7 @@ popped w = put breg (reg creg w) (put areg (reg breg w) w)
 unfoldable pub adjusted : ℕ → Work → Work
 adjusted n w = put wdescReg (bitOr (atWord (wptr w) n) (priority w)) w
 
--- what a move of n bytes leaves in its registers: 000's parameters are references (DECISIONS 14)
+-- the registers after a move of n bytes: 000's parameters are references (DECISIONS 14)
 unfoldable pub moveDone : ℕ → Work → Work
 moveDone n w = put areg 0 (put breg (atByte (reg breg w) n) (put creg (atByte (reg creg w) n) w))
 
@@ -74,7 +74,7 @@ module _ (m : List ℕ) where
   unfoldable pub blockMove : Work → Work
   blockMove w = moveDone (reg areg w) (transfer m (reg creg w) (reg breg w) (reg areg w) w)
 
-  -- save high priority queue registers, save low priority queue registers: those of a level (000 1.11)
+  -- saveh and savel: save the queue registers of a level (000 1.11)
   unfoldable pub saveQueue : ℕ → Work → Work
   saveQueue level w =
       popped

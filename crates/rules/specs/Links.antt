@@ -1,5 +1,5 @@
--- Links and the event channel, the clocks (01, Links, clocks, slice): what take, give, event and tick do, and what an `in` that finds
--- something held does.
+-- Links, the event channel and the clocks (01, Links, clocks, slice): the work of take, give, event and tick, and of an `in` that finds a
+-- byte or an event held.
 use Prim.Native.Nat.{ℕ, _+_}
 use mathlib.Core.List.{List}
 use Rattle.rules.specs.Tests.{ifLt, ifLe, ifEq, ifSet}
@@ -13,11 +13,11 @@ use Rattle.rules.specs.Scheduling.{sliceLength}
 abbrev pub ifMoving : {A : Type 0} → ℕ → Work → A → A → A
 ifMoving c w x y = ifSet activeBit (reg (channelReg c) w) (ifEq (reg (countReg c) w) 0 y x) y
 
--- active is cleared and the run request set (01, Links, clocks, slice)
+-- a transfer ends: active is cleared and the run request set (01, Links, clocks, slice)
 unfoldable pub transferEnds : ℕ → Work → Work
 transferEnds c w = raise (channelReg c) runRequest (lower (channelReg c) activeBit w)
 
--- at 0 active is cleared and the run request set (01, Links, clocks, slice)
+-- at count 0 the transfer ends (01, Links, clocks, slice)
 unfoldable pub endAtZero : ℕ → Work → Work
 endAtZero c w = ifEq (reg (countReg c) w) 0 (transferEnds c w) w
 
@@ -28,7 +28,7 @@ advance c w =
     (put (countReg c) (wrapAdd (reg (countReg c) w) (minus 1))
     (put (pointerReg c) (atByte (reg (pointerReg c) w) 1) w))
 
--- if enabled was set it is cleared and the ready request set (01, Links, clocks, slice)
+-- where enabled is set, it is cleared and the ready request set (01, Links, clocks, slice)
 unfoldable pub noticeHeld : ℕ → Work → Work
 noticeHeld c w =
     ifSet enabledBit (reg (channelReg c) w)
@@ -76,15 +76,15 @@ unfoldable pub tick : Work → Work
 tick w = ifSet clocksRun (reg flagsReg w) (tickClocks w) w
 
 module _ (m : List ℕ) where
-  -- take hands over the byte at the pointer, and the link advances (01, Links, clocks, slice)
+  -- take of a moving link: the byte at the pointer, and the work in which the link advances (01, Links, clocks, slice)
   abbrev pub handOver : ℕ → Work → ℕ × Work
   handOver c w = readByte m (reg (pointerReg c) w) (λ byte after. (byte, advance c after)) w
 
-  -- take: the byte (01, Links, clocks, slice)
+  -- the byte of a take (01, Links, clocks, slice)
   unfoldable pub taken : ℕ → Work → ℕ
   taken c w = handOver c w .0
 
-  -- take: what it does to the link (01, Links, clocks, slice)
+  -- the work of a take of a moving link (01, Links, clocks, slice)
   unfoldable pub takeByte : ℕ → Work → Work
   takeByte c w = handOver c w .1
 
@@ -92,7 +92,7 @@ module _ (m : List ℕ) where
   unfoldable pub take : ℕ → Work → Work
   take c w = ifMoving c w (takeByte c w) (refuse notReady w)
 
-  -- give: the byte is stored at the pointer (01, Links, clocks, slice)
+  -- give to a moving link: the byte is stored at the pointer, and the link advances (01, Links, clocks, slice)
   unfoldable pub receive : ℕ → ℕ → Work → Work
   receive c byte w = advance c (storeByte m (reg (pointerReg c) w) byte w)
 

@@ -1,5 +1,5 @@
--- The sixteen functions and the built operations (000 1.11; 01, The part of the T414 that we build; DECISIONS 1). The built list is these
--- tables and nothing else.
+-- The sixteen functions and the built operations (000 1.11; 01, The part of the T414 that we build; DECISIONS 1). The built list is the two
+-- tables of operations and nothing else.
 use Prim.Native.Nat.{ℕ}
 use mathlib.Core.List.{List, [], _∷_, _++_}
 use Rattle.rules.specs.Tests.{look}
@@ -15,19 +15,19 @@ use Rattle.rules.specs.declared.Attempt.{Attempt}
 use Rattle.rules.specs.declared.System.{System}
 use Rattle.rules.specs.declared.Both.{Both}
 
--- what an instruction does, of the memory before the call, to the call's work (DECISIONS 44)
+-- an instruction: from the memory before the call, and the work so far, to the work after it (DECISIONS 44)
 abbrev pub Action : Type 0
 Action = List ℕ → Work → Work
 
--- an instruction that works on registers 0 to 6 alone (000 1.11)
+-- an instruction on registers 0 to 6 alone (000 1.11)
 abbrev pub pure : (Core → Core) → Action
 pure f m w = onCore f w
 
--- the same for operations that can Stop (DECISIONS 26)
+-- an operation on registers 0 to 6 alone that can Stop (DECISIONS 26)
 abbrev pub pureOrStop : (Core → Attempt) → Action
 pureOrStop f m w = onAttempt f w
 
--- the same for operations on queue pointers and clocks (000 1.11, Booting and analysing)
+-- an operation that sets queue pointers or clocks (000 1.11, Booting and analysing)
 abbrev pub pureBoth : (Core → System → Both) → Action
 pureBoth f m w = onBoth f w
 
@@ -139,7 +139,7 @@ operations = onRegisters registerOperations ++ otherOperations
 abbrev pub unlistedAction : Action
 unlistedAction m w = refuse unlisted w
 
--- the operation with a code; one outside the built list is 9 Unlisted (01, Answers by number; DECISIONS 1)
+-- the operation with a code; a code outside the built list is 9 Unlisted (01, Answers by number; DECISIONS 1)
 unfoldable pub operate : ℕ → Action
 operate code m w = look operations code unlistedAction m w
 

@@ -1,5 +1,5 @@
--- The starred lines of 01, "Numbers at the edges". All but one are a table, `starred`: runs by the public calls, and one test of `later`; the one that
--- is of all times is `NeitherLater`. `starred-hold` (proofs/Starred.antt) proves them: the table by one computation, and the law.
+-- The starred lines of 01, "Numbers at the edges". All but one are rows of the table `starred`: runs by the public calls, and one test of `later`.
+-- The line about all times is `NeitherLater`. `starred-hold` (proofs/Starred.antt) proves the table by one computation, and the law.
 use mathlib.Core.Path.{_≡_}
 use mathlib.Core.Bool.{Bool, true, false, _&&_}
 use mathlib.Core.List.{List, [], _∷_}
@@ -23,12 +23,12 @@ unfoldable pub with-settings : List ℕ → Settings → List ℕ
 with-settings l [] = l
 with-settings l (s ∷ ss) = with-settings (set l (s .0) (s .1)) ss
 
--- a list has these words (01, Numbers at the edges)
+-- a list has these words at these indices (01, Numbers at the edges)
 unfoldable pub has : List ℕ → Settings → Bool
 has l [] = true
 has l (s ∷ ss) = eqb (getD l (s .0) 0) (s .1) && has l ss
 
--- what a call came to, with some registers and words of memory set after it: the state that a line starts from (01, Numbers at the edges)
+-- an outcome with some registers and words of memory set: the state that a line starts from (01, Numbers at the edges)
 unfoldable pub starting : Settings → Settings → Outcome → Outcome
 starting registers words o =
     record {

@@ -1,4 +1,4 @@
--- One step (01, One step), as work on registers and memory.
+-- One step (01, One step), as work (Work.antt).
 use Prim.Native.Nat.{ℕ, _/_, _^_}
 use mathlib.Core.List.{List}
 use Rattle.rules.specs.Tests.{pick, ifLt, ifEq, ifSet}
@@ -16,12 +16,12 @@ use Rattle.rules.specs.Operations.{function}
 unfoldable pub haltIfAsked : Work → Work
 haltIfAsked w = ifSet haltOnErrorBit (reg statusReg w) (raise flagsReg haltedFlag w) w
 
--- only where the error flag was clear before the step and is set after it (01, One step; DECISIONS 18)
+-- the step halts only where the error flag was clear before it and is set after it (01, One step; DECISIONS 18)
 unfoldable pub haltOnError : ℕ → Work → Work
 haltOnError before w =
     ifSet errorFlag before w (ifSet errorFlag (reg statusReg w) (haltIfAsked w) w)
 
--- Iptr grows by one, and Oreg takes the nibble in (01, One step (c); DECISIONS 2)
+-- Iptr grows by one, and the nibble is ORed into Oreg (01, One step (c); DECISIONS 2)
 unfoldable pub fetched : ℕ → Work → Work
 fetched byte w = put oreg (withNibble byte (reg oreg w)) (put iptrReg (atByte (reg iptrReg w) 1) w)
 

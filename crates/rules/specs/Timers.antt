@@ -1,5 +1,5 @@
 -- Timer queues (000 1.8, 1.10, 1.11). Insertion and deletion are done in one step (01, One step). A walk passes at most N + 1 pointer
--- values before one comes again, so a budget of N + 2 turns runs out exactly where one does (DECISIONS 27; proved in the crate `laws`).
+-- values before a value comes again, so a budget of N + 2 turns runs out exactly in a ring (DECISIONS 27; proved in the crate `laws`).
 use Prim.Native.Nat.{ℕ, zero, suc, _+_}
 use mathlib.Core.Bool.{Bool, false, not}
 use mathlib.Core.List.{List}
@@ -62,7 +62,7 @@ module _ (m : List ℕ) where
   timerUnlink queue front second w =
       timerNext queue second (wIndexWord m timerBase queue second (wIndexWord m front tlinkS timeSet w))
 
-  -- the queue first, then the process (000 1.8; DECISIONS 41)
+  -- the front process is unlinked first, then woken (000 1.8; DECISIONS 41)
   unfoldable pub timerFront : ℕ → ℕ → Work → Work
   timerFront queue front w =
       timerWake queue front (readWord m (atWord front tlinkS) (timerUnlink queue front) w)
@@ -174,7 +174,7 @@ module _ (m : List ℕ) where
       (timeNow (wIndexWord m (wptr w) stateS ready w))
       (insertFirstStep (nextTime w))
 
-  -- the IF on Breg (000 1.11, timer alt wait); any word but the two marks is a Stop (DECISIONS 26)
+  -- the IF on Breg (000 1.11, timer alt wait); any word but TimeNotSet.p and TimeSet.p is a Stop (DECISIONS 26)
   unfoldable pub taltwtLink : Work → Work
   taltwtLink w =
       ifEq (reg breg w) timeNotSet (wait m w)
@@ -197,7 +197,7 @@ module _ (m : List ℕ) where
   unfoldable pub enbtEarlier : ℕ → Work → Work
   enbtEarlier time w = pick (later time (reg breg w)) (wIndexWord m (wptr w) timeS (reg breg w) w) w
 
-  -- the IF on temp (000 1.11, enable timer); any word but the two marks is a Stop (DECISIONS 26)
+  -- the IF on temp (000 1.11, enable timer); any word but TimeNotSet.p and TimeSet.p is a Stop (DECISIONS 26)
   unfoldable pub enbtLink : ℕ → Work → Work
   enbtLink link w =
       ifEq link timeNotSet (enbtFirst w)
@@ -230,7 +230,7 @@ module _ (m : List ℕ) where
   unfoldable pub distLink : ℕ → Work → Work
   distLink link w = ifEq link timeNotSet (put areg 0 w) (distSet link w)
 
-  -- disable timer (000 1.11); Oreg is 0 after the step anyway
+  -- disable timer (000 1.11); 000 loads into Oreg, which the step sets to 0
   unfoldable pub dist : Work → Work
   dist w =
       ifEq (reg breg w) 0 (put areg 0 w)

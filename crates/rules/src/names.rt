@@ -1,5 +1,5 @@
-// The numbers that every crate writes by name: those of the definitions in rules/specs (Registers, Core, Scheduling, Work, Stack).
-// A definition with a level or a channel in it is a base here: FPTR_REG + 2 * level, CHANNEL_REG + 3 * c.
+// The constants of the definitions in rules/specs (Registers, Core, Scheduling, Work, Stack).
+// A definition with a level or a channel as argument is a base here: FPTR_REG + 2 * level, CHANNEL_REG + 3 * c.
 
 // ---- registers by number (01, Memory and registers)
 pub const IPTR_REG: usize = 0;
@@ -55,7 +55,7 @@ pub const COUNT_REG: usize = 19;
 
 pub const CHANNEL_REG: usize = 20;
 
-// Those of the event channel, which is channel 8.
+// The event channel is channel 8; its three words.
 pub const EVENT_CHANNEL: usize = 8;
 
 pub const EVENT_POINTER_REG: usize = 42;
@@ -101,7 +101,7 @@ pub const HALT_ON_ERROR_BIT: u32 = 0x80;
 
 pub const ERROR_FLAG: u32 = 0x8000_0000;
 
-// Those that an interrupt keeps (DECISIONS 20).
+// The bits of Status that an interrupt keeps (DECISIONS 20).
 pub const KEPT_STATUS: u32 = 0x8000_00FC;
 
 // ---- parts of a process descriptor (000 1.3)
@@ -134,10 +134,10 @@ pub const MACHINE_TRUE: u32 = 1;
 
 pub const MACHINE_FALSE: u32 = 0;
 
-// The word of - 1, for sums that fall by one.
+// The word of -1, to subtract 1 by a wrapping sum.
 pub const MINUS_ONE: u32 = 0xFFFF_FFFF;
 
-// A slice is so many ticks or more (01, Links, clocks, slice).
+// The ticks of a time slice (01, Links, clocks, slice).
 pub const SLICE_LENGTH: u32 = 1024;
 
 // ---- places of a workspace, in words from Wptr (000 1.3)
@@ -166,7 +166,7 @@ pub const MEM_START: u32 = 0x8000_0048;
 
 pub const MEM_START_WORD: usize = 18;
 
-// The save area's words, from SaveBase.
+// The words of the save area, from SaveBase.
 pub const WDESC_INT_SAVE: u32 = 0;
 
 pub const IPTR_INT_SAVE: u32 = 1;

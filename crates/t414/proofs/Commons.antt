@@ -1,4 +1,4 @@
--- A common step comes to what the step of rules comes to.
+-- The outcome of a common step is the outcome of the step of rules.
 use mathlib.Core.Path.{_≡_}
 use mathlib.Core.Bool.{true}
 use mathlib.Core.List.{List}

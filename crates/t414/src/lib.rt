@@ -1,12 +1,12 @@
-// The public calls of the T414 stepper: from any machine, memory, journal and arguments to the reply, with the lent
-// words as the call leaves them. Each makes its checks (sizes, channel, frame), then works out what the call does, then
-// commits; a refusal alters nothing.
+// The eight public calls of the T414 stepper (01, The part of the T414 that we build; rules/specs/Calls.antt): from any machine,
+// memory, journal and arguments to a reply. Each call makes its checks (sizes, channel, bounds of the journal), then works, then
+// commits. A refused call changes nothing. The contracts are in history/specs/Contracts.antt.
 use rules::Answer;
 use rules::Machine;
 use rules::Reply;
 ghost use Rattle.history.specs.Contracts.{FreshContract, StepContract, TickContract, TakeContract, GiveContract, EventContract, UndoContract, ClearContract};
 
-// A machine with the code loaded; memory is made anew, the journal is not written.
+// Makes a machine with the code loaded: fills memory, does not write the journal.
 pub fn fresh(mem: &mut [u32], journal: &mut [u32], code: &[u8]) -> Reply
     ensures { λ r. ⌜ FreshContract (now (code .entry)) (now (mem .entry)) (now (journal .entry)) r (now (mem .exit)) (now (journal .exit)) ⌝ }
 {
@@ -25,8 +25,8 @@ pub fn fresh(mem: &mut [u32], journal: &mut [u32], code: &[u8]) -> Reply
     }
 }
 
-// One step of the machine. Nearly every step is a common one, which needs no plan (crate swift); the engine does the others. That is called from
-// two places, so that the compiler keeps it apart from the common steps.
+// Makes one step. Nearly every step is a common one, which needs no plan (step_fast); step_engine makes the others. It is called
+// from two places, so that the compiler does not inline it into the common steps.
 pub fn step(m: Machine, mem: &mut [u32], journal: &mut [u32]) -> Reply
     ensures { λ r. ⌜ StepContract m (now (mem .entry)) (now (journal .entry)) r (now (mem .exit)) (now (journal .exit)) ⌝ }
 {
@@ -46,7 +46,7 @@ pub fn step(m: Machine, mem: &mut [u32], journal: &mut [u32]) -> Reply
     step_engine::planned(m, mem, journal)
 }
 
-// The clocks go on by one.
+// Advances the clocks by one tick.
 pub fn tick(m: Machine, mem: &mut [u32], journal: &mut [u32]) -> Reply
     ensures { λ r. ⌜ TickContract m (now (mem .entry)) (now (journal .entry)) r (now (mem .exit)) (now (journal .exit)) ⌝ }
 {
@@ -59,7 +59,7 @@ pub fn tick(m: Machine, mem: &mut [u32], journal: &mut [u32]) -> Reply
     journal_small::commit_regs(m, ticked, mem, journal)
 }
 
-// A byte is taken from an output link.
+// Takes a byte from an output link.
 pub fn take(m: Machine, mem: &mut [u32], journal: &mut [u32], channel: u32) -> Reply
     ensures { λ r. ⌜ TakeContract channel m (now (mem .entry)) (now (journal .entry)) r (now (mem .exit)) (now (journal .exit)) ⌝ }
 {
@@ -81,7 +81,7 @@ pub fn take(m: Machine, mem: &mut [u32], journal: &mut [u32], channel: u32) -> R
     journal::outcome::commit_or_refuse(m, p, byte as u8, mem, journal)
 }
 
-// A byte is given to an input link.
+// Gives a byte to an input link.
 pub fn give(m: Machine, mem: &mut [u32], journal: &mut [u32], channel: u32, byte: u8) -> Reply
     ensures { λ r. ⌜ GiveContract channel byte m (now (mem .entry)) (now (journal .entry)) r (now (mem .exit)) (now (journal .exit)) ⌝ }
 {
@@ -100,7 +100,7 @@ pub fn give(m: Machine, mem: &mut [u32], journal: &mut [u32], channel: u32, byte
     journal::outcome::commit_or_refuse(m, p, 0, mem, journal)
 }
 
-// The event pin is raised.
+// Raises the event pin.
 pub fn event(m: Machine, mem: &mut [u32], journal: &mut [u32]) -> Reply
     ensures { λ r. ⌜ EventContract m (now (mem .entry)) (now (journal .entry)) r (now (mem .exit)) (now (journal .exit)) ⌝ }
 {
@@ -113,7 +113,7 @@ pub fn event(m: Machine, mem: &mut [u32], journal: &mut [u32]) -> Reply
     journal::outcome::commit_or_refuse(m, p, 0, mem, journal)
 }
 
-// The last accepted call is taken back.
+// Undoes the last accepted call.
 pub fn undo(m: Machine, mem: &mut [u32], journal: &mut [u32]) -> Reply
     ensures { λ r. ⌜ UndoContract m (now (mem .entry)) (now (journal .entry)) r (now (mem .exit)) (now (journal .exit)) ⌝ }
 {
@@ -127,7 +127,7 @@ pub fn undo(m: Machine, mem: &mut [u32], journal: &mut [u32]) -> Reply
     journal::commit::undo_last(m, mem, journal)
 }
 
-// The journal is emptied; nothing else changes.
+// Empties the journal; changes nothing else.
 pub fn clear(m: Machine, mem: &mut [u32], journal: &mut [u32]) -> Reply
     ensures { λ r. ⌜ ClearContract m (now (mem .entry)) (now (journal .entry)) r (now (mem .exit)) (now (journal .exit)) ⌝ }
 {

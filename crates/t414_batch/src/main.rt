@@ -13,18 +13,18 @@
 //     bytes                the code, and zero bytes up to a multiple of 4
 // A response:
 //     u32 answer           0 for done, else 01's number of the refusal
-//     u32 byte             what take hands over, else 0
+//     u32 byte             of an accepted take, else 0
 //     u64 depth, u64 used
 //     u32 each             the registers, the memory, the journal
 //
 // Repeat is for measuring (docs/PERFORMANCE.md). Its code begins with five numbers of 32 bits: the steps before the first round,
 // the rounds, and the steps, ticks and undos of each round. It makes a fresh machine of the bytes after them and repeats the calls;
-// a round begins by clearing the journal. The first refusal ends it. The response has the last answer and what is left by then.
+// a round begins by clearing the journal. The first refusal ends it. The response has the last answer and the state after it.
 //
 // A case that the end of the input cuts short, an unknown call, a length past the limits or a repeat with fewer than 20 code bytes
 // ends the program: one line on standard error, and no response for that case.
 //
-// Here are the calls and the loops; reading and writing are in the crate cases, which knows no call.
+// Here are the calls and the loops; reading and writing are in program_io, which makes no public call.
 use program_io::answers;
 use program_io::case;
 use program_io::case::Counts;
@@ -39,7 +39,7 @@ ghost use lib.ListN.{length};
 ghost use Rattle.program_io.specs.Sizes.{caseHead, mostWords, mostJournal, mostResponse};
 
 // Steps n times after the reply r, or until a step is refused. This is the only place that calls step, so that the compiler can
-// build the whole step into the loop. The loop keeps the reply, not the machine, since that is one copy less for each call.
+// inline the whole step into the loop. The loop keeps the reply, not the machine, which saves a copy for each call.
 fn steps(n: u32, r: Reply, mem: &mut [u32], journal: &mut [u32]) -> Reply {
     let mut reply = r;
     let mut left = n;
@@ -54,7 +54,8 @@ fn steps(n: u32, r: Reply, mem: &mut [u32], journal: &mut [u32]) -> Reply {
     reply
 }
 
-// As steps. One loop for the three calls, with a match in it, took 361 instructions a step in place of 258.
+// Ticks n times after the reply r, or until a tick is refused. A loop for each call, since one loop with a match in it makes a
+// step slower.
 fn ticks(n: u32, r: Reply, mem: &mut [u32], journal: &mut [u32]) -> Reply {
     let mut reply = r;
     let mut left = n;
@@ -69,7 +70,7 @@ fn ticks(n: u32, r: Reply, mem: &mut [u32], journal: &mut [u32]) -> Reply {
     reply
 }
 
-// As steps.
+// Undoes n times after the reply r, or until an undo is refused.
 fn undos(n: u32, r: Reply, mem: &mut [u32], journal: &mut [u32]) -> Reply {
     let mut reply = r;
     let mut left = n;
@@ -84,19 +85,20 @@ fn undos(n: u32, r: Reply, mem: &mut [u32], journal: &mut [u32]) -> Reply {
     reply
 }
 
-// The steps of a round, after a clear.
+// Clears the journal, then makes the steps of a round.
 fn forward(n: u32, r: Reply, mem: &mut [u32], journal: &mut [u32]) -> Reply {
     let cleared = t414::clear(r.machine, mem, journal);
     steps(n, cleared, mem, journal)
 }
 
+// Makes the steps, ticks and undos of a round.
 fn round(c: Counts, r: Reply, mem: &mut [u32], journal: &mut [u32]) -> Reply {
     let stepped = forward(c.steps, r, mem, journal);
     let ticked = ticks(c.ticks, stepped, mem, journal);
     undos(c.undos, ticked, mem, journal)
 }
 
-// The steps before the rounds, and the rounds.
+// Makes the steps before the first round, then the rounds.
 fn rounds(c: Counts, r: Reply, mem: &mut [u32], journal: &mut [u32]) -> Reply {
     let mut reply = steps(c.before, r, mem, journal);
     let mut left = c.rounds;
@@ -111,7 +113,8 @@ fn rounds(c: Counts, r: Reply, mem: &mut [u32], journal: &mut [u32]) -> Reply {
     reply
 }
 
-// The call; one outside 0 to 8 is seen before, and a repeat begins as fresh does. r is the machine of the case, as a reply.
+// Makes the call of a case on its machine r; a repeat (8) begins as fresh does. A call outside 0 to 8 was stopped before
+// (program_io::case).
 fn reply_to(
     call: u32,
     channel: u32,
@@ -133,9 +136,9 @@ fn reply_to(
     }
 }
 
-// Makes the call of the case h at the byte at of input, and the rounds after it, of which only a repeat has any; mem and journal
-// are as long as the case says.
-fn ask(h: Head, input: &[u8], at: usize, mem: &mut [u32], journal: &mut [u32]) -> Reply
+// Loads the case h at byte at of input and makes its call, then the rounds, of which only a repeat has any. mem and journal are
+// as long as the case says.
+fn make_call(h: Head, input: &[u8], at: usize, mem: &mut [u32], journal: &mut [u32]) -> Reply
     requires { ⌜ (at + h .end ≤ length (now input)) × (h .from ≤ h .code) × (h .code ≤ h .end) ⌝ }
     requires { ⌜ h .from ≡ caseHead + 4 * length (now mem) + 4 * length (now journal) ⌝ }
 {
@@ -148,7 +151,7 @@ fn ask(h: Head, input: &[u8], at: usize, mem: &mut [u32], journal: &mut [u32]) -
     rounds(c, first, mem, journal)
 }
 
-// Answers the case h at the place p.
+// Answers the case h at the place p: makes its call and writes the response.
 fn answered(
     p: Place,
     h: Head,
@@ -162,12 +165,18 @@ fn answered(
     requires { ⌜ (h .from ≡ caseHead + 4 * length (now mem) + 4 * length (now journal)) × (h .from ≤ h .code) × (h .code ≤ h .end) × (h .end ≤ h .size) ⌝ }
     ensures { λ r. ⌜ (r .at ≤ r .end) × (r .end ≡ p .end) × (r .out ≤ length (now (output .exit))) ⌝ }
 {
-    let r = ask(h, input, p.at, mem, journal);
+    let r = make_call(h, input, p.at, mem, journal);
     place::answered(p, h.size, r, mem, journal, output)
 }
 
-// Answers the case at the place p, if it can be answered, and says what to do next.
-fn one(p: Place, input: &[u8], output: &mut [u8], mem: &mut [u32], journal: &mut [u32]) -> Place
+// Answers the case at the place p where it can be answered; else returns the place with the reason.
+fn answer_case(
+    p: Place,
+    input: &[u8],
+    output: &mut [u8],
+    mem: &mut [u32],
+    journal: &mut [u32],
+) -> Place
     requires { ⌜ (p .at ≤ p .end) × (p .end ≤ length (now input)) × (p .out + mostResponse ≤ length (now output)) ⌝ }
     requires { ⌜ (mostWords ≤ length (now mem)) × (mostJournal ≤ length (now journal)) ⌝ }
     ensures { λ r. ⌜ (r .at ≤ r .end) × (r .end ≡ p .end) × (r .out ≤ length (now (output .exit))) ⌝ }
@@ -188,15 +197,15 @@ fn one(p: Place, input: &[u8], output: &mut [u8], mem: &mut [u32], journal: &mut
     )
 }
 
-// Goes on while there is something to do. Nothing bounds the input, so the loop has a count of turns that no run can use up.
-fn all(input: &mut [u8], output: &mut [u8], mem: &mut [u32], journal: &mut [u32]) -> Place
+// Answers cases until there is a reason to stop. The input has no bound, so the loop has a count of turns that no run can use up.
+fn answer_all(input: &mut [u8], output: &mut [u8], mem: &mut [u32], journal: &mut [u32]) -> Place
     requires { ⌜ (mostResponse ≤ length (now output)) × (mostWords ≤ length (now mem)) × (mostJournal ≤ length (now journal)) ⌝ }
     ensures { λ r. ⌜ r .out ≤ length (now (output .exit)) ⌝ }
 {
     let mut p = place::start();
     let mut turns = u64::MAX;
     while turns > 0 {
-        p = one(p, input, output, mem, journal);
+        p = answer_case(p, input, output, mem, journal);
         p = place::ready(p, input, output);
         turns = place::next(p, turns);
     }
@@ -208,6 +217,6 @@ fn main() {
     let mut output = room::bytes();
     let mut mem = room::memory();
     let mut journal = room::journal();
-    let p = all(&mut input, &mut output, &mut mem, &mut journal);
+    let p = answer_all(&mut input, &mut output, &mut mem, &mut journal);
     place::finish(p, &output);
 }

@@ -1,4 +1,4 @@
--- A turn of the program's loop, and its ends, in terms of the definitions.
+-- A turn of the program's loop, and its two ends, by the definitions.
 use Prim.Native.Nat.{ℕ, suc, _+_, _-_, _≤_, _<_}
 use mathlib.Core.Path.{_≡_, sym, _∙_}
 use mathlib.Core.List.{List}
@@ -9,7 +9,7 @@ use Rattle.rules.specs.declared.Reply.{Reply}
 use Rattle.rules.proofs.Tests.{yes-eq, no-eq}
 use Rattle.t414_run.specs.Program.{run, program}
 
--- a step that was made: its machine, memory and journal, its reply, the words that it leaves, and the reply's number
+-- a step: from m, mem and j to the reply r and the lent words mem' and j'; k is the number of the answer
 module _ (m : Machine) (mem j : List ℕ) (r : Reply) (mem' j' : List ℕ) (k : ℕ) (e : outcomeOf r mem' j' ≡ step m mem j) (n : k ≡ numberOf (r .answer)) where
   pub run-on : (s : ℕ) → s < 100 → k ≡ 0 → run (100 - (s + 1)) (s + 1) (r .machine) mem' j' ≡ run (100 - s) s m mem j
   unfolding run
@@ -34,7 +34,7 @@ pub run-full :
 unfolding run
 run-full m mem j s h = let d : 100 - s ≡ 0 = omega arith in rw d
 
--- the same of fresh
+-- a fresh machine: from code, mem and j to the reply r and the lent words mem' and j'; k is the number of the answer
 module _ (code mem j : List ℕ) (r : Reply) (mem' j' : List ℕ) (k : ℕ) (e : outcomeOf r mem' j' ≡ fresh code mem j) (n : k ≡ numberOf (r .answer)) where
   pub program-on : k ≡ 0 → run 100 0 (r .machine) mem' j' ≡ program code mem j
   unfolding program

@@ -1,4 +1,4 @@
--- What the program of 01 comes to, from any code (01, Numbers at the edges). Assumes nothing.
+-- The result of t414_run, from any code (01, Numbers at the edges).
 use Prim.Native.Nat.{ℕ, zero, suc, _+_}
 use mathlib.Core.List.{List}
 use Rattle.rules.specs.Tests.{ifEq}
@@ -6,7 +6,7 @@ use Rattle.rules.specs.Calls.{Outcome, fresh, step}
 use Rattle.rules.specs.declared.Machine.{Machine}
 use Rattle.t414_run.specs.declared.Tally.{Tally}
 
--- what the program's line tells, and the lent words as they then are (01, Numbers at the edges)
+-- the fields of the program's line, and the lent words after the run (01, Numbers at the edges)
 pub record Result : Type 0 where
   pub machine : Machine
   pub steps : ℕ
@@ -14,17 +14,17 @@ pub record Result : Type 0 where
   pub memory : List ℕ
   pub journal : List ℕ
 
--- what the code hands back: its tally, and the lent words as they then are (01, Numbers at the edges)
+-- the result that the code returns: its tally, and the lent words after the run (01, Numbers at the edges)
 abbrev pub resultOf : Tally → List ℕ → List ℕ → Result
 resultOf t mem j =
     record { machine = t .machine; steps = t .steps; refusal = t .refusal; memory = mem; journal = j }
 
--- an end at an outcome, after some accepted steps: the program stops at a refusal (01, Numbers at the edges)
+-- the result of a run that a refusal ends, after some accepted steps (01, Numbers at the edges)
 abbrev pub endAt : ℕ → Outcome → Result
 endAt steps o =
     record { machine = o .machine; steps = steps; refusal = o .answer; memory = o .memory; journal = o .journal }
 
--- up to n steps more, until a refusal (01, Numbers at the edges)
+-- the result after up to n steps more, until a refusal (01, Numbers at the edges)
 unfoldable pub run : ℕ → ℕ → Machine → List ℕ → List ℕ → Result
 run zero steps m mem j = record { machine = m; steps = steps; refusal = 0; memory = mem; journal = j }
 run (suc n) steps m mem j =
@@ -32,7 +32,7 @@ run (suc n) steps m mem j =
     (run n (steps + 1) (step m mem j .machine) (step m mem j .memory) (step m mem j .journal))
     (endAt steps (step m mem j))
 
--- fresh, and up to 100 steps if it is accepted (01, Numbers at the edges)
+-- the result of the program: fresh, and up to 100 steps where fresh is accepted (01, Numbers at the edges)
 unfoldable pub program : List ℕ → List ℕ → List ℕ → Result
 program code mem j =
     ifEq (fresh code mem j .answer) 0

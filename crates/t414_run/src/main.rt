@@ -7,15 +7,15 @@ ghost use mathlib.Core.Path.{_≡_};
 ghost use Rattle.t414_run.specs.Program as program;
 ghost use Rattle.t414_run.specs.Program.{resultOf};
 
-// What the line tells.
+// The fields of the line.
 struct Tally {
     machine: Machine,
     steps: u64,
     refusal: u32,
 }
 
-// Steps until a refusal, and 100 times at most. A refused step hands the machine back as it was. This is the only place that
-// calls step, so that the compiler can build the whole step into the loop.
+// Steps until a refusal, and 100 times at most. A refused step returns the machine unchanged. This is the only place that calls
+// step, so that the compiler can inline the whole step into the loop.
 fn run(m: Machine, mem: &mut [u32], journal: &mut [u32]) -> Tally
     ensures { λ r. ⌜ resultOf r (now (mem .exit)) (now (journal .exit)) ≡ program.run 100 0 m (now (mem .entry)) (now (journal .entry)) ⌝ }
 {
@@ -44,8 +44,8 @@ fn run(m: Machine, mem: &mut [u32], journal: &mut [u32]) -> Tally
     }
 }
 
-// What the program tells of code: fresh, and then the run. If fresh refuses, it hands back a machine that is all 0.
-fn told(mem: &mut [u32], journal: &mut [u32], code: &[u8]) -> Tally
+// Makes a fresh machine with the code and runs it. A refused fresh returns a machine that is all 0.
+fn run_code(mem: &mut [u32], journal: &mut [u32], code: &[u8]) -> Tally
     ensures { λ r. ⌜ resultOf r (now (mem .exit)) (now (journal .exit)) ≡ program.program (now (code .entry)) (now (mem .entry)) (now (journal .entry)) ⌝ }
 {
     let reply = t414::fresh(mem, journal, code);
@@ -64,9 +64,9 @@ fn told(mem: &mut [u32], journal: &mut [u32], code: &[u8]) -> Tally
 
 fn print_tally(t: Tally) {
     let m = t.machine;
-    let told = lines::line(m, t.steps, t.refusal);
-    let text = told.text;
-    let n = told.size;
+    let written = lines::line(m, t.steps, t.refusal);
+    let text = written.text;
+    let n = written.size;
     io::write_all(1, &text[..n]);
 }
 
@@ -75,5 +75,5 @@ fn main() {
     let mut journal = [0u32; 8192];
     let mut code = [0u8; 4021];
     let got = io::read_full(0, &mut code);
-    print_tally(told(&mut mem, &mut journal, &code[..got]));
+    print_tally(run_code(&mut mem, &mut journal, &code[..got]));
 }

@@ -1,4 +1,4 @@
--- Masks, proved once for every bit number.
+-- Masks: a bit tested, set and cleared, for every bit number.
 use mathlib.Core.Path.{_≡_, sym, ap, _∙_}
 use Prim.Native.Nat.{ℕ, _+_, _-_, _*_, _/_, _%_, _^_, _≤_, _<_}
 use native.Mathlib.Omega.{arith}

@@ -1,4 +1,4 @@
--- What the definitions say over the whole numbers, in natural numbers.
+-- The definitions over the whole numbers, computed with natural numbers.
 use mathlib.Core.Path.{_≡_, refl, sym, ap, _∙_}
 use mathlib.Core.Bool.{true, false}
 use Prim.Native.Nat.{ℕ, zero, suc, _+_, _-_, _*_, _/_, _%_, _^_, _≤_, _<_}
@@ -30,12 +30,12 @@ sub-net : (p m : ℕ) → subℕ p m ≡ net p m
 unfolding net
 sub-net p m = refl
 
--- one number has many such forms
+-- two differences of the same number
 pub net-same : (a b c d : ℕ) → a + d ≡ c + b → net a b ≡ net c d
 net-same a b c d e =
     by-net (λ (z : ℤ). z ≡ net c d) a b (λ h. sym (net-neg _ _ _ (omega arith))) (λ h. sym (net-pos _ _ _ (omega arith)))
 
--- ---- what is in the definitions, as net numbers
+-- ---- the terms of the definitions, as net numbers
 
 pub sign-net : (x : ℕ) → x < 2 ^ 32 → sign x ≡ net (bias x) (2 ^ 31)
 unfolding sign
@@ -72,7 +72,7 @@ net-sub a b c d = rw (net-minus c d) (net-add a b d c)
 
 -- ---- the word of a net number
 
--- r is the word of p - m: they differ by whole ranges
+-- r is the word of p - m where the two differ by multiples of 2 ^ 32
 pub net-restore : (p m r i j : ℕ) → r < 2 ^ 32 → r + m + i * 2 ^ 32 ≡ p + j * 2 ^ 32 → restoreToRange (net p m) ≡ r
 unfolding restoreToRange
 net-restore p m r i j h e =
@@ -241,7 +241,7 @@ quot-minus-minus x y hx gx hy gy =
     rw (minus-sign gx, minus-magnitude hx gx, minus-sign gy, minus-magnitude hy gy)
     (pos-net (suc (2 ^ 32 - 1 - x) / suc (2 ^ 32 - 1 - y)))
 
--- the magnitude is that of the whole number
+-- the magnitude is the absolute value of the whole number
 natAbs-sign : (y : ℕ) → y < 2 ^ 32 → natAbs (sign y) ≡ magnitude y
 natAbs-sign y hy =
     cases-lt y (2 ^ 31) (λ l. rw (plus-sign l)) (λ g. rw (minus-sign g, minus-magnitude hy g))

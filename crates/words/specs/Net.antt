@@ -1,4 +1,4 @@
--- Whole numbers as a surplus over a debt, the form in which the code keeps them: both are natural numbers.
+-- Whole numbers as differences of two natural numbers, the form in which the code keeps them.
 use Prim.Native.Nat.{ℕ, _+_, _-_, _%_, _^_}
 use lib.IntN.{ℤ, subℕ}
 use Rattle.rules.specs.Tests.{ifLt}
@@ -11,6 +11,6 @@ net p m = subℕ p m
 abbrev pub bias : ℕ → ℕ
 bias x = (x + 2 ^ 31) % 2 ^ 32
 
--- a word, read as a signed number, without its sign (000 1.1, Sign)
+-- the absolute value of a word, read as a signed number (000 1.1, Sign)
 unfoldable pub magnitude : ℕ → ℕ
 magnitude x = ifLt x (2 ^ 31) x (2 ^ 32 - x)

@@ -48,8 +48,8 @@ add-at c =
     let S = n .before .before .before in
     omega (arith, good S, n .count .ensures .few)
 
-make-requires : tie.Need-make-requires
-make-requires c κs =
+store-recorded-requires : tie.Need-store-recorded-requires
+store-recorded-requires c κs =
     let i = c .before .before .before in
     let k = i .before .before in
     let a = k .before .before .before .args in
@@ -86,11 +86,11 @@ returns-2 c =
     let e = k .count .ensures in
     let ks = touched (length (a .mem .now)) (storesOf (a .t)) in
     let l = length-of (a .t) n (length (a .mem .now)) e in
-    let j : g .make .last .1 .0 ≡ sets (a .journal .now) (a .m .used) (olds (a .mem .now) ks) = rw (e .touches) at (g .make .ensures .0) in
+    let j : g .store-recorded .last .1 .0 ≡ sets (a .journal .now) (a .m .used) (olds (a .mem .now) ks) = rw (e .touches) at (g .store-recorded .ensures .0) in
     rw (w .with-core .ensures)
     (commit-done (a .m) (a .mem .now) (a .journal .now) 0 (withCore (a .t .core) (a .m .regs)) ks (stores (a .mem .now) (storesOf (a .t))) n _ _ l
     (ltb-false _ _ (sym (i .before .is-full .ensures) ∙ i .if1 .left))
-    (g .make .ensures .1 ∙ e .makes (a .mem .now) refl)
+    (g .store-recorded .ensures .1 ∙ e .makes (a .mem .now) refl)
     (p .put-tail .ensures ∙ rw j (record-written (a .journal .now) (a .mem .now) (a .m .regs) ks (a .m .used) n l))
     ∙ comes (a .m) (a .mem .now) (a .journal .now) (a .t))
 
@@ -104,7 +104,7 @@ commit-common-spec =
     returns
     (λ c. search needs)
     add-at
-    make-requires
+    store-recorded-requires
     (λ c. search needs)
     put-tail-requires
     (λ c κs. search needs)

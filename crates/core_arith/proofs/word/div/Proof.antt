@@ -6,7 +6,7 @@ use Rattle.core_arith.proofs.word.div.Tie as tie
 
 returns : tie.Need-returns
 unfolding div
-returns c = rw (← c .before .before .undivided .ensures, c .before .if1 .taken) (c .refused .ensures)
+returns c = rw (← c .before .before .undivided .ensures, c .before .if1 .taken) (c .division-error .ensures)
 
 quotient-requires : tie.Need-quotient-requires
 quotient-requires c κs = divided (c .before .before .args .s) (c .if1 .left) (c .before .undivided .ensures)

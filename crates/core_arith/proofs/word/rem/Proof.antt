@@ -6,7 +6,7 @@ use Rattle.core_arith.proofs.word.rem.Tie as tie
 
 returns : tie.Need-returns
 unfolding rem
-returns c = rw (← c .before .before .undivided .ensures, c .before .if1 .taken) (c .refused .ensures)
+returns c = rw (← c .before .before .undivided .ensures, c .before .if1 .taken) (c .division-error .ensures)
 
 remainder-requires : tie.Need-remainder-requires
 remainder-requires c κs = divided (c .before .before .args .s) (c .if1 .left) (c .before .undivided .ensures)

@@ -13,7 +13,7 @@ use borrow.Author.Needs.{needs}
 use Rattle.journal.proofs.commit.commit.Statement.{statement}
 use Rattle.journal.proofs.commit.commit.Tie as tie
 
--- what the frame tells, and the limits of memory and journal
+-- the bounds of the journal, and the limits of memory and journal
 good : (c : tie.Start) → (c .args .m .used ≤ length (c .args .journal .now)) × (recordLength 0 * c .args .m .depth ≤ c .args .m .used) × (length (c .args .journal .now) ≤ 65536) × (length (c .args .mem .now) ≤ 16384)
 good c = let f = frame-good _ _ _ (c .pre .4) in (f .0, f .1, c .pre .3, c .pre .2)
 

@@ -10,7 +10,7 @@ use borrow.Author.Needs.{needs}
 use Rattle.journal.proofs.commit.undo_last.Statement.{statement}
 use Rattle.journal.proofs.commit.undo_last.Tie as tie
 
--- what the frame tells
+-- the bounds of the journal, and a depth above 0
 good : (c : tie.Start) → (c .args .m .used ≤ length (c .args .journal .now)) × (recordLength 0 * c .args .m .depth ≤ c .args .m .used) × (0 < c .args .m .depth)
 good c = let f = frame-good _ _ _ (c .pre .0) in (f .0, f .1, c .pre .1)
 

@@ -15,7 +15,7 @@ returns c =
     let q = g .before .before .before .before in
     let S = q .before .before .before .before .before .before in
     let a = S .args in
-    rw (g .put-part .ensures, q .put-front .ensures) (pairs-written (length (a .mem .now)) (a .o) (S .pre .0) (long S) (a .journal .now) (a .mem .now) (a .at))
+    rw (g .put-single-pairs .ensures, q .put-front-pairs .ensures) (pairs-written (length (a .mem .now)) (a .o) (S .pre .0) (long S) (a .journal .now) (a .mem .now) (a .at))
 
 pub put-pairs-spec : {M : Type 1} → statement M
 put-pairs-spec =

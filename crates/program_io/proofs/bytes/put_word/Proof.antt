@@ -1,7 +1,6 @@
 use lib.ListN.{length-set}
 use native.Mathlib.Omega.{arith}
 use borrow.Author.Needs.{needs}
-use borrow.Author.Needs.{needs}
 use Rattle.program_io.proofs.bytes.put_word.Statement.{statement}
 use Rattle.program_io.proofs.bytes.put_word.Tie as tie
 

@@ -1,7 +1,6 @@
 use mathlib.Core.Path.{refl}
 use native.Mathlib.Omega.{arith}
 use borrow.Author.Needs.{needs}
-use borrow.Author.Needs.{needs}
 use Rattle.program_io.proofs.case.asked.Statement.{statement}
 use Rattle.program_io.proofs.case.asked.Tie as tie
 

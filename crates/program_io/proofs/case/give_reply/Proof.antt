@@ -2,7 +2,6 @@ use mathlib.Core.Path.{_≡_}
 use lib.ListN.{length}
 use native.Mathlib.Omega.{arith}
 use borrow.Author.Needs.{needs}
-use borrow.Author.Needs.{needs}
 use Rattle.program_io.proofs.case.give_reply.Statement.{statement}
 use Rattle.program_io.proofs.case.give_reply.Tie as tie
 

@@ -1,6 +1,5 @@
 use native.Mathlib.Omega.{arith}
 use borrow.Author.Needs.{needs}
-use borrow.Author.Needs.{needs}
 use Rattle.program_io.proofs.case.look.Statement.{statement}
 use Rattle.program_io.proofs.case.look.Tie as tie
 

@@ -8,8 +8,8 @@ use lib.Seq.{sets}
 use Rattle.rules.specs.Journal.{olds}
 use Rattle.journal_record.specs.Indices.{range}
 use Rattle.journal_record.proofs.Written.{olds-turn, olds-done, range-cut}
-use Rattle.journal_record.proofs.parts.put_range.Statement.{statement}
-use Rattle.journal_record.proofs.parts.put_range.Tie as tie
+use Rattle.journal_record.proofs.parts.put_range_pairs.Statement.{statement}
+use Rattle.journal_record.proofs.parts.put_range_pairs.Tie as tie
 
 record Turn (j₀ mem : List ℕ) (lo count at : ℕ) (j : List ℕ) (i w left : ℕ) : Type 0 where
   len : length j ≡ length j₀
@@ -86,8 +86,8 @@ returns c =
     let e : L .loop .left ≡ 0 = omega arith in
     sym (olds-done (L .loop .journal) (L .before .args .mem .now) (L .loop .w)) ∙ (rw e at (L .loop .inv .rest))
 
-pub put-range-spec : {M : Type 1} → statement M
-put-range-spec =
+pub put-range-pairs-spec : {M : Type 1} → statement M
+put-range-pairs-spec =
     tie.close
     (tie.spec
     Inv-loop

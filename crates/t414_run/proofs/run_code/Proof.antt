@@ -1,8 +1,8 @@
 use mathlib.Core.Path.{_∙_}
 use Rattle.t414_run.proofs.Running.{program-on, program-end}
 use borrow.Author.Needs.{needs}
-use Rattle.t414_run.proofs.told.Statement.{statement}
-use Rattle.t414_run.proofs.told.Tie as tie
+use Rattle.t414_run.proofs.run_code.Statement.{statement}
+use Rattle.t414_run.proofs.run_code.Tie as tie
 
 returns : tie.Need-returns
 returns c =
@@ -20,8 +20,8 @@ returns-2 c =
     let a = f .before .before .before .before .before .before .args in
     r .run .ensures ∙ program-on (a .code .now) (a .mem .now) (a .journal .now) (f .fresh .result) _ _ (n .number-of .result) (f .fresh .ensures) (n .number-of .ensures) (i .if1 .left)
 
-pub told-spec : {M : Type 1} → statement M
-told-spec =
+pub run-code-spec : {M : Type 1} → statement M
+run-code-spec =
     tie.close
     (tie.spec
     (λ c κs. search needs)

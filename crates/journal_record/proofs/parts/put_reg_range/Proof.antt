@@ -8,8 +8,8 @@ use lib.ListN.{length, length-set}
 use lib.Seq.{slice, sets, slice-empty}
 use Rattle.rules.specs.Registers.{registers}
 use Rattle.journal_record.proofs.Sorting.{cut}
-use Rattle.journal_record.proofs.parts.put_some.Statement.{statement}
-use Rattle.journal_record.proofs.parts.put_some.Tie as tie
+use Rattle.journal_record.proofs.parts.put_reg_range.Statement.{statement}
+use Rattle.journal_record.proofs.parts.put_reg_range.Tie as tie
 
 record Turn (j₀ regs : List ℕ) (f t at : ℕ) (j : List ℕ) (w k : ℕ) : Type 0 where
   fk : f ≤ k
@@ -79,8 +79,8 @@ returns c =
     let e : L .loop .k ≡ a .t = omega arith in
     rw (e, slice-empty (a .t) (a .t2)) at (L .loop .inv .left)
 
-pub put-some-spec : {M : Type 1} → statement M
-put-some-spec =
+pub put-reg-range-spec : {M : Type 1} → statement M
+put-reg-range-spec =
     tie.close
     (tie.spec
     Inv-loop

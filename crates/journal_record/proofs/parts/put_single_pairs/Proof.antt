@@ -9,8 +9,8 @@ use Rattle.rules.specs.Journal.{olds}
 use Rattle.laws.specs.Lists.{Below}
 use Rattle.journal_record.proofs.Sorting.{cut}
 use Rattle.journal_record.proofs.Written.{olds-turn, olds-done}
-use Rattle.journal_record.proofs.parts.put_part.Statement.{statement}
-use Rattle.journal_record.proofs.parts.put_part.Tie as tie
+use Rattle.journal_record.proofs.parts.put_single_pairs.Statement.{statement}
+use Rattle.journal_record.proofs.parts.put_single_pairs.Tie as tie
 
 record Turn (j₀ mem ix : List ℕ) (f t at : ℕ) (j : List ℕ) (w k : ℕ) : Type 0 where
   fk : f ≤ k
@@ -29,7 +29,7 @@ Inv-loop journal₀ mem f t at ix w₀ k₀ journal w k = Turn journal₀ mem ix
 abbrev μ-loop : tie.MeasureT-loop
 μ-loop journal₀ mem f t at ix w₀ k₀ journal w k = t - k
 
--- the words from k on are the one at k and those after it
+-- the words from k on are the word at k and the words after it
 cut-k : (c : tie.In-loop Inv-loop μ-loop) → slice (c .before .loop .k) (c .before .before .args .t) (c .before .before .args .t3) ≡ getD (c .before .before .args .t3) (c .before .loop .k) 0 ∷ slice (c .before .loop .k + 1) (c .before .before .args .t) (c .before .before .args .t3)
 cut-k c =
     let L = c .before in
@@ -108,8 +108,8 @@ returns c =
     let e : L .loop .k ≡ a .t = omega arith in
     sym (olds-done (L .loop .journal) (a .mem .now) (L .loop .w)) ∙ (rw (e, slice-empty (a .t) (a .t3)) at (L .loop .inv .left))
 
-pub put-part-spec : {M : Type 1} → statement M
-put-part-spec =
+pub put-single-pairs-spec : {M : Type 1} → statement M
+put-single-pairs-spec =
     tie.close
     (tie.spec
     Inv-loop

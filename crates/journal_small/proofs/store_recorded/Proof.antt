@@ -2,8 +2,8 @@ use borrow.Author.Needs.{needs}
 use native.Mathlib.Omega.{arith}
 use mathlib.Core.Path.{_≡_, _∙_}
 use Rattle.journal_small.proofs.Brief.{pair-none, pair-one, made-none, made-one}
-use Rattle.journal_small.proofs.make.Statement.{statement}
-use Rattle.journal_small.proofs.make.Tie as tie
+use Rattle.journal_small.proofs.store_recorded.Statement.{statement}
+use Rattle.journal_small.proofs.store_recorded.Tie as tie
 
 put-pair-requires : tie.Need-put-pair-requires
 put-pair-requires c κs =
@@ -29,5 +29,5 @@ returns-2 c =
     let e : a .n ≡ 0 = omega (arith, c .if1 .left) in
     (pair-none (a .journal .now) (a .mem .now) (a .i) (a .at) (a .n) e, made-none (a .i) (a .v) (a .n) (a .mem .now) e)
 
-pub make-spec : {M : Type 1} → statement M
-make-spec = tie.close (tie.spec put-pair-requires (λ c. search needs) slice-write-mem (λ c. search needs) (λ c. search needs) returns returns-2)
+pub store-recorded-spec : {M : Type 1} → statement M
+store-recorded-spec = tie.close (tie.spec put-pair-requires (λ c. search needs) slice-write-mem (λ c. search needs) (λ c. search needs) returns returns-2)

@@ -4,8 +4,8 @@ use Prim.Native.Nat.{_+_, _-_, _*_, _/_, _%_}
 use Rattle.rules.specs.Memory.{moved}
 use Rattle.journal_moves.proofs.Bytes.{moved-split}
 use borrow.Author.Needs.{needs}
-use Rattle.journal_moves.proofs.move_level.Statement.{statement}
-use Rattle.journal_moves.proofs.move_level.Tie as tie
+use Rattle.journal_moves.proofs.move_aligned.Statement.{statement}
+use Rattle.journal_moves.proofs.move_aligned.Tie as tie
 
 returns : tie.Need-returns
 returns c =
@@ -16,7 +16,7 @@ returns c =
     let law = moved-split (4 * (a .n / 4)) (a .n % 4) (a .mem .now) (a .src) (a .dst) in
     rw (g .move-bytes .ensures, q .move-words .ensures) (sym (ap (moved (a .mem .now) (a .src) (a .dst)) e ∙ law))
 
-pub move-level-spec : {M : Type 1} → statement M
-move-level-spec =
+pub move-aligned-spec : {M : Type 1} → statement M
+move-aligned-spec =
     tie.close
     (tie.spec (λ c. search needs) (λ c. search needs) (λ c. search needs) (λ c. search needs) (λ c κs. search needs) (λ c κs. search needs) (λ c. search needs) returns)

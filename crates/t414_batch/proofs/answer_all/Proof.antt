@@ -4,8 +4,8 @@ use lib.ListN.{length}
 use mathlib.Core.Path.{_≡_}
 use Rattle.program_io.specs.Sizes.{mostResponse}
 use borrow.Author.Needs.{needs}
-use Rattle.t414_batch.proofs.all.Statement.{statement}
-use Rattle.t414_batch.proofs.all.Tie as tie
+use Rattle.t414_batch.proofs.answer_all.Statement.{statement}
+use Rattle.t414_batch.proofs.answer_all.Tie as tie
 
 abbrev Inv-loop : tie.InvT-loop
 Inv-loop input₀ output₀ mem₀ journal₀ p₀ turns₀ input output mem journal p turns = (p .at ≤ p .end) × (p .end ≤ length input) × (p .out + mostResponse ≤ length output) × (length input ≡ length input₀) × (length output ≡ length output₀) × (length mem ≡ length mem₀) × (length journal ≡ length journal₀)
@@ -19,8 +19,8 @@ start-requires c κs = search needs
 loop-holds : tie.Need-loop-holds Inv-loop μ-loop
 loop-holds c = search needs
 
-one-requires : tie.Need-one-requires Inv-loop μ-loop
-one-requires c κs = search needs
+answer-case-requires : tie.Need-answer-case-requires Inv-loop μ-loop
+answer-case-requires c κs = search needs
 
 ready-requires : tie.Need-ready-requires Inv-loop μ-loop
 ready-requires c κs = search needs
@@ -49,15 +49,15 @@ same-length-4 c = search needs
 returns : tie.Need-returns Inv-loop μ-loop
 returns c = search needs
 
-pub all-spec : {M : Type 1} → statement M
-all-spec =
+pub answer-all-spec : {M : Type 1} → statement M
+answer-all-spec =
     tie.close
     (tie.spec
     Inv-loop
     μ-loop
     start-requires
     loop-holds
-    one-requires
+    answer-case-requires
     ready-requires
     next-requires
     loop-less
