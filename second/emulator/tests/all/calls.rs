@@ -7,7 +7,8 @@ use emulator::{number, Emulator, Machine};
 #[test]
 fn decision_35_the_journal_is_checked_exactly() {
     let mut rig = Rig::quiet();
-    rig.m.depth = 401_016_175_515_425_036;
+    // RECORD times this is a little above 2^64: a small number if the product wraps
+    rig.m.depth = u64::MAX / RECORD + 1;
     rig.m.used = RECORD;
     assert_eq!(
         (rig.step(), rig.tick(), rig.event(), rig.undo()),
@@ -43,7 +44,7 @@ fn decision_35_a_refused_fresh_answers_zeros() {
 fn foreign(pairs: &[[u32; 2]]) -> Rig {
     let mut rig = Rig::quiet();
     let mut record: Vec<u32> = pairs.concat();
-    record.extend(1000..1045);
+    record.extend((1000..).take(REGISTERS));
     record.push(pairs.len() as u32);
     rig.m.used = record.len() as u64;
     rig.m.depth = 1;
@@ -71,8 +72,10 @@ fn decision_36_undo_of_foreign_records() {
     rig.jou.splice(0..0, [9; RECORD as usize]);
     rig.m.used += RECORD;
     rig.m.depth = 2;
-    *rig.jou.last_mut().unwrap() = 28;
-    assert_eq!((rig.undo(), rig.m.depth, rig.m.used), (0, 1, 0));
+    // the words before it taken for pairs
+    *rig.jou.last_mut().unwrap() = 5 + RECORD as u32 / 2;
+    assert_eq!((rig.undo(), rig.m.depth), (0, 1));
+    assert_eq!(rig.m.used, RECORD % 2);
     assert_eq!(rig.undo(), 4);
 }
 
@@ -131,7 +134,7 @@ fn a_refusal_leaves_everything() {
     assert_eq!(rig.jou.len(), too_short);
     assert!(rig.jou.iter().all(|&word| word == 5));
     rig.jou.push(5);
-    assert_eq!((rig.step(), rig.m.used), (0, 54));
+    assert_eq!((rig.step(), rig.m.used), (0, RECORD + 2 * 4));
 }
 
 #[test]
