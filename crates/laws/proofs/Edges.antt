@@ -1,7 +1,7 @@
--- Definitions at the places where a slip in a program would show, by computation.
+-- Definitions where a slip of a program would show, by computation.
 use mathlib.Core.Path.{_≡_, refl}
 use mathlib.Core.Bool.{true}
-use Rattle.rules.specs.Tests.{ifLt, ifLe, ifEq}
+use Rattle.rules.specs.Tests.{ifLt, ifEq}
 use Rattle.rules.specs.Words.{sign, restoreToRange, overflows, positive, later}
 use Rattle.rules.specs.Core.{overflowCheck}
 use Rattle.rules.specs.Stack.{testerr, shl}
@@ -22,5 +22,5 @@ use Rattle.laws.specs.Accesses.{registersFor, memoryFor}
 use Rattle.laws.specs.Edges.{before, ends, gives, edges}
 
 pub edges-hold : every edges ≡ true
-unfolding every edges gives ends before registersFor memoryFor with-settings has freshRegs freshMemory freshWord codeWord ifLt ifLe ifEq sign restoreToRange overflows positive later overflowCheck testerr shl coreOf withCore byteIn setByteIn moved within storing stores put raise lower gotoSNP putCore attempted refuseAt append wordAt byteAt access storeWord storeByte rIndexWord wIndexWord setIdle clearIdle startSlice unlinkFront dequeue activateProcess startQueued startLow resumeOrStart nextLow nextProcess startNextProcess actOnSNP saveIptr endLast endOne endCounted endp moveDone setNext insertNext insertLink insertFinalStep insertWalk insertFirstStep deleteNext deleteLink deleteFinalStep deleteWalk deleteFirstStep transferEnds noticeHeld hold give requestFrom requested runContent handleRunRequest handleChannelRequest functions function fetched execute decode instruction instructionUnlessIdle channelsFirst choose olds recordOf pairsAt writeBack numberOf notOutput
+unfolding every edges gives ends before registersFor memoryFor with-settings has freshRegs freshMemory freshWord codeWord ifLt ifEq sign restoreToRange overflows positive later overflowCheck testerr shl coreOf withCore byteIn setByteIn moved within storing stores put raise lower gotoSNP putCore attempted refuseAt append wordAt byteAt access storeWord storeByte rIndexWord wIndexWord setIdle clearIdle startSlice unlinkFront dequeue activateProcess startQueued startLow resumeOrStart nextLow nextProcess startNextProcess actOnSNP saveIptr endLast endOne endCounted endp moveDone setNext insertNext insertLink insertFinalStep insertWalk insertFirstStep deleteNext deleteLink deleteFinalStep deleteWalk deleteFirstStep transferEnds noticeHeld hold give requestFrom requested runContent handleRunRequest handleChannelRequest functions function fetched execute decode instruction instructionUnlessIdle channelsFirst choose olds recordOf pairsAt writeBack numberOf notOutput
 edges-hold = refl
