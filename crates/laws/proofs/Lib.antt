@@ -10,6 +10,7 @@ pub mod Appended
 pub mod Calls
 pub mod Calm
 pub mod DeleteRing
+pub mod Edges
 pub mod Fine
 pub mod FineChannels
 pub mod FineData
