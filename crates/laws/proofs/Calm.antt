@@ -94,8 +94,8 @@ module _ (m : List ℕ) (kind a : ℕ) (w : Work) where
   outside-out h e = record { is = rw (no-lt h, yes-eq e) }
 
   -- after one outside, whatever keeps every property is not refused with Stop
-  pub lost : length (w .regs) ≡ registers → length m ≤ index a → w .answer ≡ 0 → (v : Work) → Keeping (access m kind a w) v → Calm v
-  lost h out e v keep =
+  pub outside-calm : length (w .regs) ≡ registers → length m ≤ index a → w .answer ≡ 0 → (v : Work) → Keeping (access m kind a w) v → Calm v
+  outside-calm h out e v keep =
       let f = keep (Answer (Is outside)) (λ k kind a q. absurd (let z : _≡_ {A = ℕ} 0 10 = q in omega arith))
       (is-fine outside (access m kind a w) (fine-access m kind a (calm-none h e) .count) (λ q. omega (arith, q)) (outside-out out e .is)) in
       not-fine stop v (f .count) (λ q. omega (arith, q)) (λ q. omega (arith, q, f .known))
@@ -134,4 +134,4 @@ pub tells-read : (m : List ℕ) (a : ℕ) (next : ℕ → Work → Work) (w : Wo
 tells-read m a next w t h e keep f =
     cases-lt (index a) (length m)
     (λ b. rw (lt-leb (length m) (index a) b) (subst (λ (x : Work). Tells t (next (wordAt m a w) x)) (sym (inside-same m kindLoad a w b)) f))
-    (λ b. rw (le-leb (length m) (index a) b) (tells-calm (lost m kindLoad a w h b e (readWord m a next w) keep)))
+    (λ b. rw (le-leb (length m) (index a) b) (tells-calm (outside-calm m kindLoad a w h b e (readWord m a next w) keep)))

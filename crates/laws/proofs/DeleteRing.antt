@@ -19,8 +19,9 @@ use Rattle.rules.proofs.Tests.{yes-eq, no-eq, on-eq, cases-lt}
 use Rattle.laws.specs.Ring.{end, round, nextPointer, isOutside, deleteEnds, deleteRings, DeleteRing}
 use Rattle.laws.proofs.Ring.{budget, budget-round, budget-end, no-end, refused-iff, again-iff}
 use Rattle.laws.proofs.Fine.{Fine}
-use Rattle.laws.proofs.FineTimers.{fine-deleteFinalStep, fine-deleteWalk}
-use Rattle.laws.proofs.Calm.{Calm, calm-none, inside-same, lost, Tells, tells-calm, tells-iff}
+use Rattle.laws.proofs.Lawful.{kept}
+use Rattle.laws.proofs.LawfulTimerQueues.{lawful-deleteFinalStep, lawful-deleteWalk}
+use Rattle.laws.proofs.Calm.{Calm, calm-none, inside-same, outside-calm, Tells, tells-calm, tells-iff}
 
 -- ---- deletion
 
@@ -33,12 +34,12 @@ module _ (m : List ℕ) (w : Work) (count : length (w .regs) ≡ registers) (non
   delete-turn turns previous h = rw (inside-same m 2 previous w h)
 
   -- one whose own pointer is outside
-  delete-lost : (turns previous : ℕ) → length m ≤ index previous → Calm (deleteWalk m (suc turns) previous w)
+  delete-outside : (turns previous : ℕ) → length m ≤ index previous → Calm (deleteWalk m (suc turns) previous w)
   unfolding deleteWalk
-  delete-lost turns previous h =
+  delete-outside turns previous h =
       let p = wordAt m previous w in
-      lost m 2 previous w count h none _
-      (λ P t f. on-eq (Fine P) p (wptr w) (fine-deleteFinalStep m previous f) (fine-deleteWalk m turns (atWord p tlinkS) (t stop) f))
+      outside-calm m 2 previous w count h none _
+      (λ P t f. on-eq (Fine P) p (wptr w) (kept (lawful-deleteFinalStep previous) m f) (kept (lawful-deleteWalk (t stop) turns (atWord p tlinkS)) m f))
 
   -- what it means that the walk does not end at p
   pub delete-goes : (p : ℕ) → deleteEnds m w p ≡ false → (p ≡ wptr w → ⊥) × (index (atWord p tlinkS) < length m)
@@ -59,12 +60,12 @@ module _ (m : List ℕ) (w : Work) (count : length (w .regs) ≡ registers) (non
       p = wordAt m previous w
 
       found : Calm (deleteFinalStep m previous w)
-      found = fine-deleteFinalStep m previous (calm-none count none)
+      found = kept (lawful-deleteFinalStep previous) m (calm-none count none)
 
       go : (a : Bool) → eqb p (wptr w) ≡ a → pick a true (isOutside m (atWord p tlinkS)) ≡ true
           → Calm (ifEq p (wptr w) (deleteFinalStep m previous w) (deleteWalk m (suc turns) (atWord p tlinkS) w))
       go true ea z = rw (yes-eq (eqb-true p (wptr w) ea)) found
-      go false ea z = on-eq Calm p (wptr w) found (delete-lost turns (atWord p tlinkS) (leb-true _ _ z))
+      go false ea z = on-eq Calm p (wptr w) found (delete-outside turns (atWord p tlinkS) (leb-true _ _ z))
 
   -- one turn of a walk that goes on
   delete-on : (turns previous : ℕ) → index previous < length m → deleteEnds m w (wordAt m previous w) ≡ false
@@ -113,4 +114,4 @@ module _ (m : List ℕ) (w : Work) (count : length (w .regs) ≡ registers) (non
       cases-lt (index previous) (length m)
       (λ b. rw (lt-leb (length m) (index previous) b) (tells-iff _ (deleteWalk m (length m + 2) previous w) (delete-ring previous b) (delete-rings (wordAt m previous w))))
       (λ b. let two : length m + 2 ≡ suc (suc (length m)) = omega arith in
-      rw (le-leb (length m) (index previous) b, two) (tells-calm (delete-lost (suc (length m)) previous b)))
+      rw (le-leb (length m) (index previous) b, two) (tells-calm (delete-outside (suc (length m)) previous b)))

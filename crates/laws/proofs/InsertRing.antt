@@ -19,8 +19,9 @@ use Rattle.rules.proofs.Tests.{yes-eq, no-eq, on-pick, on-eq, cases-lt}
 use Rattle.laws.specs.Ring.{end, round, nextPointer, isOutside, insertEnds, insertRings, InsertRing}
 use Rattle.laws.proofs.Ring.{budget, budget-round, budget-end, no-end, refused-iff, again-iff}
 use Rattle.laws.proofs.Fine.{Fine, fine-access}
-use Rattle.laws.proofs.FineTimers.{fine-insertFinalStep, fine-insertWalk}
-use Rattle.laws.proofs.Calm.{Calm, calm-none, inside-same, lost, Tells, tells-calm, tells-iff}
+use Rattle.laws.proofs.Lawful.{kept}
+use Rattle.laws.proofs.LawfulTimerQueues.{lawful-insertFinalStep, lawful-insertWalk}
+use Rattle.laws.proofs.Calm.{Calm, calm-none, inside-same, outside-calm, Tells, tells-calm, tells-iff}
 
 -- ---- insertion
 
@@ -36,16 +37,16 @@ module _ (m : List ℕ) (time : ℕ) (w : Work) (count : length (w .regs) ≡ re
   insert-turn turns previous h = rw (inside-same m 2 previous w h)
 
   -- one whose own pointer is outside
-  insert-lost : (turns previous : ℕ) → length m ≤ index previous → Calm (insertWalk m (suc turns) time previous w)
+  insert-outside : (turns previous : ℕ) → length m ≤ index previous → Calm (insertWalk m (suc turns) time previous w)
   unfolding insertWalk
-  insert-lost turns previous h =
+  insert-outside turns previous h =
       let p = wordAt m previous w in
-      lost m 2 previous w count h none _
+      outside-calm m 2 previous w count h none _
       (λ P t f.
-      on-eq (Fine P) p notProcess (fine-insertFinalStep m previous p f)
+      on-eq (Fine P) p notProcess (kept (lawful-insertFinalStep previous p) m f)
       (on-pick (Fine P) (later time (wordAt m (atWord p timeS) (access m kindLoad previous w)))
-      (fine-insertWalk m turns time (atWord p tlinkS) (t stop) (fine-access m 2 _ f))
-      (fine-insertFinalStep m previous p (fine-access m 2 _ f))))
+      (kept (lawful-insertWalk (t stop) turns time (atWord p tlinkS)) m (fine-access m 2 _ f))
+      (kept (lawful-insertFinalStep previous p) m (fine-access m 2 _ f))))
 
   -- what it means that the walk does not end at p
   pub insert-goes : (p : ℕ) → insertEnds m w time p ≡ false
@@ -79,23 +80,23 @@ module _ (m : List ℕ) (time : ℕ) (w : Work) (count : length (w .regs) ≡ re
       on = access m kindLoad (atWord p timeS) w
 
       found : Calm (insertFinalStep m previous p on)
-      found = fine-insertFinalStep m previous p (fine-access m 2 (atWord p timeS) calm)
+      found = kept (lawful-insertFinalStep previous p) m (fine-access m 2 (atWord p timeS) calm)
 
       go : (a : Bool) → eqb p notProcess ≡ a → (b : Bool) → isOutside m (atWord p timeS) ≡ b → (c : Bool) → later time (wordAt m (atWord p timeS) w) ≡ c
           → pick a true (pick b true (pick c (isOutside m (atWord p tlinkS)) true)) ≡ true
           → Calm
           (ifEq p notProcess (insertFinalStep m previous p w)
           (pick (later time (wordAt m (atWord p timeS) w)) (insertWalk m (suc turns) time (atWord p tlinkS) on) (insertFinalStep m previous p on)))
-      go true ea b eb c ec z = rw (yes-eq (eqb-true p notProcess ea)) (fine-insertFinalStep m previous p calm)
+      go true ea b eb c ec z = rw (yes-eq (eqb-true p notProcess ea)) (kept (lawful-insertFinalStep previous p) m calm)
       go false ea true eb c ec z =
-          on-eq Calm p notProcess (fine-insertFinalStep m previous p calm)
+          on-eq Calm p notProcess (kept (lawful-insertFinalStep previous p) m calm)
           (on-pick Calm (later time (wordAt m (atWord p timeS) w))
-          (lost m 2 (atWord p timeS) w count (leb-true _ _ eb) none _ (λ P t f. fine-insertWalk m (suc turns) time (atWord p tlinkS) (t stop) f))
+          (outside-calm m 2 (atWord p timeS) w count (leb-true _ _ eb) none _ (λ P t f. kept (lawful-insertWalk (t stop) (suc turns) time (atWord p tlinkS)) m f))
           found)
-      go false ea false eb false ec z = rw ec (on-eq Calm p notProcess (fine-insertFinalStep m previous p calm) found)
+      go false ea false eb false ec z = rw ec (on-eq Calm p notProcess (kept (lawful-insertFinalStep previous p) m calm) found)
       go false ea false eb true ec z =
           let same : on ≡ w = inside-same m 2 (atWord p timeS) w (leb-false _ _ eb) in
-          rw (ec, same) (on-eq Calm p notProcess (fine-insertFinalStep m previous p calm) (insert-lost turns (atWord p tlinkS) (leb-true _ _ z)))
+          rw (ec, same) (on-eq Calm p notProcess (kept (lawful-insertFinalStep previous p) m calm) (insert-outside turns (atWord p tlinkS) (leb-true _ _ z)))
 
   -- one turn of a walk that goes on
   insert-on : (turns previous : ℕ) → index previous < length m → insertEnds m w time (wordAt m previous w) ≡ false
@@ -147,4 +148,4 @@ module _ (m : List ℕ) (time : ℕ) (w : Work) (count : length (w .regs) ≡ re
       cases-lt (index previous) (length m)
       (λ b. rw (lt-leb (length m) (index previous) b) (tells-iff _ (insertWalk m (length m + 2) time previous w) (insert-ring previous b) (insert-rings (wordAt m previous w))))
       (λ b. let two : length m + 2 ≡ suc (suc (length m)) = omega arith in
-      rw (le-leb (length m) (index previous) b, two) (tells-calm (insert-lost (suc (length m)) previous b)))
+      rw (le-leb (length m) (index previous) b, two) (tells-calm (insert-outside (suc (length m)) previous b)))

@@ -12,7 +12,8 @@ use Rattle.rules.specs.Work.{Work, reg, put, lower, priority, stop}
 use Rattle.rules.specs.Timers.{tptrLoc, insertFirstStep, deleteFirstStep}
 use Rattle.laws.specs.Stops.{going, insertStarted, deleteStarted, insertStops, deleteStops}
 use Rattle.laws.proofs.Fine.{fine-lower, fine-wIndexWord}
-use Rattle.laws.proofs.FineTimers.{fine-insertWalk}
+use Rattle.laws.proofs.Lawful.{kept}
+use Rattle.laws.proofs.LawfulTimerQueues.{lawful-insertWalk}
 use Rattle.laws.proofs.Calm.{Calm, any-fine, Tells, regroup, tells-going}
 use Rattle.laws.proofs.InsertRing.{insert-tells}
 use Rattle.laws.proofs.DeleteRing.{delete-tells}
@@ -49,5 +50,5 @@ pub insert-stops : (m : List ℕ) {w : Work} → Calm w → Tells (insertStops m
 unfolding insertFirstStep insertStops
 insert-stops m {w} c =
     regroup (going (insertStarted m w)) _ _ (insertFirstStep m w)
-    (tells-going (insertStarted m w) (insertFirstStep m w) _ (fine-wIndexWord m _ _ _ (fine-wIndexWord m _ _ _ c)) (λ P t f. fine-insertWalk m _ _ _ (t stop) f)
+    (tells-going (insertStarted m w) (insertFirstStep m w) _ (fine-wIndexWord m _ _ _ (fine-wIndexWord m _ _ _ c)) (λ P t f. kept (lawful-insertWalk (t stop) _ _ _) m f)
     (λ e. insert-tells m (reg areg w) _ (started-count m w (c .count)) e (tptrLoc (priority w))))

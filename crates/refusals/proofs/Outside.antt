@@ -24,10 +24,10 @@ use Rattle.rules.specs.declared.Machine.{Machine}
 use Rattle.rules.proofs.Tests.{yes-eq, no-eq, cases-eq}
 use Rattle.laws.specs.Alike.{Witness, Alike}
 use Rattle.laws.specs.Alike as alike
-use Rattle.laws.proofs.FineStep.{fine-haltOnError}
+use Rattle.laws.proofs.Lawful.{kept}
+use Rattle.laws.proofs.LawfulStep.{step-alike, FetchRefused, fetch-refused, lawful-haltOnError}
 use Rattle.laws.proofs.Calm.{never}
 use Rattle.laws.proofs.Appended.{stores-appended, touched-appended, record-appended}
-use Rattle.laws.proofs.AlikeStep.{step-alike, FetchRefused, fetch-refused}
 use Rattle.refusals.specs.Conditions.{frame, isHalted, isIdle, fetches}
 use Rattle.refusals.specs.Outside.{appended}
 use Rattle.refusals.proofs.Own.{by-choice}
@@ -148,7 +148,7 @@ module _ (r mem : List ℕ) (h : length r ≡ registers) (o : length mem ≤ ind
   step-lost k i f =
       cases-eq (bitAnd (getD r flagsReg 0) haltedFlag) 0
       (λ e. rw (yes-eq e)
-      (fine-haltOnError _ (by-choice r mem (FetchRefused r) i (λ z a. never (sym z ∙ f)) (λ z a b. never (sym z ∙ f)) (λ z a b. never (sym z ∙ f)) (λ z. fetch-refused r mem h o))))
+      (kept (lawful-haltOnError _) mem (by-choice r mem (FetchRefused r) i (λ z a. never (sym z ∙ f)) (λ z a b. never (sym z ∙ f)) (λ z a b. never (sym z ∙ f)) (λ z. fetch-refused r mem h o))))
       (λ e. never (sym k ∙ rw (no-eq e)))
 
 pub step-fetch-outside : (m : Machine) (mem j : List ℕ) → length (m .regs) ≡ registers

@@ -22,7 +22,8 @@ use Rattle.rules.proofs.Tests.{yes}
 use Rattle.laws.specs.Ring.{isOutside, insertRings}
 use Rattle.laws.specs.Stops.{going, insertStarted, insertStops, deleteStarted, deleteStops, InsertsInRing, DeletesInRing, TinRing, DistRing, tinStops, distStops, stateLoaded, linkLoaded, timeLoaded, markStops, taltwtStops, stopPlaces, nowhere}
 use Rattle.laws.proofs.Fine.{fine-wIndexWord, fine-rIndexWord}
-use Rattle.laws.proofs.FineTimers.{fine-nextTime}
+use Rattle.laws.proofs.Lawful.{kept}
+use Rattle.laws.proofs.LawfulTimers.{lawful-nextTime}
 use Rattle.laws.proofs.Calm.{never, and-false, any-fine}
 use Rattle.laws.proofs.InsertRing.{insert-rings}
 use Rattle.laws.proofs.DeleteRing.{delete-rings}
@@ -89,7 +90,7 @@ module _ (mem : List ℕ) (large : 64 ≤ length mem) (w : Work) (h : length (w 
 module _ (mem : List ℕ) (large : 64 ≤ length mem) (w : Work) (h : length (w .regs) ≡ registers) where
   tin-iff : (tinStops mem w ≡ true) ↔ TinRing mem w
   unfolding tinStops
-  tin-iff = then-both _ _ (not-iff (later (reg (clockReg (priority w)) w) (reg areg w))) (insert-iff mem large (nextTime w) (fine-nextTime (any-fine w h) .count))
+  tin-iff = then-both _ _ (not-iff (later (reg (clockReg (priority w)) w) (reg areg w))) (insert-iff mem large (nextTime w) (kept lawful-nextTime mem (any-fine w h) .count))
 
   dist-iff : w .answer ≡ 0 → (distStops mem w ≡ true) ↔ DistRing mem w
   unfolding distStops
