@@ -1,5 +1,5 @@
--- THE TWO LAWS of work done from a given work w, in any memory. First: the registers stay 45, and a refusal that came first stays. Second: done in a
--- memory m and in m with words appended, the work is alike. Prove both for the parts that all work is made of; each chapter then follows by composing them.
+-- THE TWO LAWS of what is done to work. First: the registers stay 45, and a refusal that came first stays. Second: done in a memory, and in that memory with
+-- words appended, the results are alike. This file proves both of the parts that all work is made of; each chapter follows by composing the parts.
 use mathlib.Core.Path.{_≡_, refl, sym, subst, _∙_}
 use mathlib.Core.Bool.{Bool, true, false}
 use mathlib.Core.List.{List, [], _++_}
@@ -22,16 +22,16 @@ use Rattle.laws.proofs.Fine.{Fine, Turns, fine-put, fine-putCore, fine-
 use Rattle.laws.proofs.Calm.{any-fine, inside-same}
 use Rattle.laws.proofs.Appended.{word-appended, inside-snoc}
 
--- A are the numbers, other than 10, that the work may be refused with
+-- what is done from a work w, in any memory; A are the numbers, other than 10, that it may refuse with
 pub record Lawful (A : ℕ → Type 0) (w : Work) (f : List ℕ → Work) : Type 1 where
   pub keeps : (P : ℕ → ℕ → ℕ → Type 0) → ((n : ℕ) → A n → Turns P n) → (mem : List ℕ) → Fine P w → Fine P (f mem)
   pub alike : (m x : List ℕ) → length m < 2 ^ 30 → Unrefused (length m) w → Alike (length m) (f m) (f (m ++ x))
 
--- from any work
+-- done from any work
 abbrev pub Law : (ℕ → Type 0) → (List ℕ → Work → Work) → Type 1
 Law A h = (w : Work) → Lawful A w (λ mem. h mem w)
 
--- the first law, of a property of the answer
+-- apply the first law to one property of the answer
 pub kept : {P : ℕ → ℕ → ℕ → Type 0} {h : List ℕ → Work → Work} → Law (Turns P) h → (m : List ℕ) {w : Work} → Fine P w → Fine P (h m w)
 kept {P} l m {w} f = l w .keeps P (λ n t. t) m f
 
@@ -40,53 +40,39 @@ kept {P} l m {w} f = l w .keeps P (λ n t. t) m f
 abbrev pub AnswerIs : ℕ → ℕ → ℕ → ℕ → ℕ → ℕ → Type 0
 AnswerIs n k a number kind address = (number ≡ n) × (kind ≡ k) × (address ≡ a)
 
--- what is done in any memory keeps it
-abbrev pub Stays : (List ℕ → Work → Work) → Type 0
-Stays g = (mem : List ℕ) (n k a : ℕ) → ((number : ℕ) → Turns (AnswerIs n k a) number) → (w : Work) → Fine (AnswerIs n k a) w → Fine (AnswerIs n k a) (g mem w)
-
-pub stays : {A : ℕ → Type 0} {h : List ℕ → Work → Work} → Law A h → Stays h
-stays l mem n k a t w f = l w .keeps (AnswerIs n k a) (λ number z. t number) mem f
-
 pub never-turns : (n k a : ℕ) → (n ≡ 0 → ⊥) → (number : ℕ) → Turns (AnswerIs n k a) number
 never-turns n k a h number k′ a′ z kind address = absurd (h (sym (z .0)))
 
-as-is : (w : Work) → (w .answer ≡ 0 → ⊥) → length (w .regs) ≡ registers → Fine (AnswerIs (w .answer) (w .kind) (w .address)) w
-as-is w h c = record { count = c; known = (refl, refl, refl); ten = never-turns (w .answer) (w .kind) (w .address) h outside }
-
-pub refused-with : (number : ℕ) (w : Work) → w .answer ≡ 0 → refuse number w .answer ≡ number
+pub refused-with : (number kind a : ℕ) (w : Work) → w .answer ≡ 0
+    → refuseAt number kind a w ≡ record { regs = w .regs; stored = w .stored; answer = number; kind = kind; address = a }
 unfolding refuseAt
-refused-with number w e = rw (yes-eq e)
+refused-with number kind a w e = rw (yes-eq e)
 
--- ---- tests: a relation of both answers is one of the test's
-
-module _ (R : Work → Work → Type 0) where
-  pub both-pick : (t : Bool) {a b a′ b′ : Work} → R a a′ → R b b′ → R (pick t a b) (pick t a′ b′)
-  both-pick true p q = p
-  both-pick false p q = q
-
-  pub both-eq : (i j : ℕ) {a b a′ b′ : Work} → R a a′ → R b b′ → R (ifEq i j a b) (ifEq i j a′ b′)
-  unfolding ifEq
-  both-eq i j p q = both-pick (eqb i j) p q
-
--- ---- one after the other
-
-pub self : {size : ℕ} {w : Work} → Unrefused size w → Alike size w w
-self u = same refl u
-
-keep-witness : {size : ℕ} (w v : Work) → v .kind ≡ w .kind → v .address ≡ w .address → Witness size w → Witness size v
-keep-witness w v e f t = record { least = rw e (t .least); most = rw e (t .most); away = rw f (t .away) }
+-- refuse an access outside memory
+pub fine-outside : (mem : List ℕ) (kind a : ℕ) (w : Work) → length (w .regs) ≡ registers → w .answer ≡ 0 → length mem ≤ index a
+    → Fine (AnswerIs outside kind a) (access mem kind a w)
+unfolding access
+fine-outside mem kind a w c e h =
+    rw (no-lt h, refused-with outside kind a w e)
+    (record { count = c; known = (refl, refl, refl); ten = never-turns outside kind a (λ z. omega (arith, z)) outside })
 
 module _ {A : ℕ → Type 0} where
-  -- of works that are alike
-  pub lift : {h : List ℕ → Work → Work} → Law A h → (m x : List ℕ) → length m < 2 ^ 30 → {w w′ : Work} → Alike (length m) w w′ → Alike (length m) (h m w) (h (m ++ x) w′)
-  lift {h} l m x small {w} {w′} (beyond e c t) =
-      let n : w .answer ≡ 0 → ⊥ = λ z. let y : _≡_ {A = ℕ} 0 10 = sym z ∙ e in omega arith in
-      let f = stays l m (w .answer) (w .kind) (w .address) (never-turns _ _ _ n) w (as-is w n c) in
-      beyond (f .known .0 ∙ e) (f .count) (keep-witness w (h m w) (f .known .1) (f .known .2) t)
-  lift {h} l m x small {w} {w′} (refused n o e c c′) =
-      let n′ : w′ .answer ≡ 0 → ⊥ = λ z. n (e ∙ z) in
-      let f = stays l m (w .answer) (w .kind) (w .address) (never-turns _ _ _ n) w (as-is w n c) in
-      let f′ = stays l (m ++ x) (w′ .answer) (w′ .kind) (w′ .address) (never-turns _ _ _ n′) w′ (as-is w′ n′ c′) in
+  -- ---- one after the other
+
+  stays : {h : List ℕ → Work → Work} → Law A h → (mem : List ℕ) (w : Work) → (w .answer ≡ 0 → ⊥) → length (w .regs) ≡ registers
+      → Fine (AnswerIs (w .answer) (w .kind) (w .address)) (h mem w)
+  stays l mem w n c =
+      let t = never-turns (w .answer) (w .kind) (w .address) n in
+      l w .keeps (AnswerIs _ _ _) (λ k z. t k) mem (record { count = c; known = (refl, refl, refl); ten = t outside })
+
+  -- lift the second law from the same work to works that are alike
+  lift : {h : List ℕ → Work → Work} → Law A h → (m x : List ℕ) → length m < 2 ^ 30 → {w w′ : Work} → Alike (length m) w w′ → Alike (length m) (h m w) (h (m ++ x) w′)
+  lift l m x small {w} {w′} (beyond e c t) =
+      let f = stays l m w (λ z. omega (arith, z, e)) c in
+      beyond (f .known .0 ∙ e) (f .count) (record { least = rw (f .known .1) (t .least); most = rw (f .known .1) (t .most); away = rw (f .known .2) (t .away) })
+  lift l m x small {w} {w′} (refused n o e c c′) =
+      let f = stays l m w n c in
+      let f′ = stays l (m ++ x) w′ (λ z. n (e ∙ z)) c′ in
       refused (λ z. n (sym (f .known .0) ∙ z)) (λ z. o (sym (f .known .0) ∙ z)) (f .known .0 ∙ e ∙ sym (f′ .known .0)) (f .count) (f′ .count)
   lift {h} l m x small {w} (same e u) = subst (λ (v : Work). Alike (length m) (h m w) (h (m ++ x) v)) e (l w .alike m x small u)
 
@@ -95,9 +81,8 @@ module _ {A : ℕ → Type 0} where
   _then_ {f = f} g l =
       record { keeps = λ P t mem z. l (f mem) .keeps P t mem (g .keeps P t mem z); alike = λ m x small u. lift l m x small (g .alike m x small u) }
 
-  -- nothing done
   pub unchanged : {w : Work} → Lawful A w (λ mem. w)
-  unchanged = record { keeps = λ P t mem z. z; alike = λ m x small u. self u }
+  unchanged = record { keeps = λ P t mem z. z; alike = λ m x small u. same refl u }
 
   -- ---- tests of registers and of loaded values
 
@@ -125,7 +110,7 @@ module _ {A : ℕ → Type 0} where
   on-registers g s e f w =
       record {
         keeps = λ P t mem z. s P w z;
-        alike = λ m x small u. self (record { none = e w ∙ u .none; inside = rw (f w) (u .inside); count = s _ w (any-fine w (u .count)) .count });
+        alike = λ m x small u. same refl (record { none = e w ∙ u .none; inside = rw (f w) (u .inside); count = s _ w (any-fine w (u .count)) .count });
       }
 
   pub lawful-put : (k v : ℕ) → Law A (λ mem. put k v)
@@ -158,10 +143,7 @@ module _ {A : ℕ → Type 0} where
   lawful-refuse number allowed n w =
       record {
         keeps = λ P t mem f. fine-refuse number (t number allowed) f;
-        alike = λ m x small u.
-          let e = refused-with number w (u .none) in
-          let c = fine-refuse number (λ k a z kind address. tt) (any-fine w (u .count)) .count in
-          refused (λ q. n .0 (sym e ∙ q)) (λ q. n .1 (sym e ∙ q)) refl c c;
+        alike = λ m x small u. rw (refused-with number 0 0 w (u .none)) (refused (n .0) (n .1) refl (u .count) (u .count));
       }
 
   pub lawful-stop : A stop → Law A (λ mem. refuse stop)
@@ -173,62 +155,50 @@ module _ {A : ℕ → Type 0} where
 
 -- ---- accesses
 
--- a store inside memory
+pub longer : (m x : List ℕ) (i : ℕ) → i < length m → i < length (m ++ x)
+longer m x i h = omega (arith, length-append m x)
+
+pub same-word : (m x : List ℕ) (a : ℕ) (w : Work) → Unrefused (length m) w → index a < length m → wordAt (m ++ x) a w ≡ wordAt m a w
+unfolding wordAt
+same-word m x a w u h = word-appended m x (w .stored) (index a) (u .inside) h
+
+-- store inside memory
 alike-append : {size : ℕ} (s : Store) → StoreInside size s → (w : Work) → Unrefused size w → Alike size (append s w) (append s w)
 unfolding append
 alike-append {size} s i w u =
-    rw (yes-eq (u .none)) (self (record { none = u .none; inside = inside-snoc size (w .stored) s (u .inside) i; count = u .count }))
+    rw (yes-eq (u .none)) (same refl (record { none = u .none; inside = inside-snoc size (w .stored) s (u .inside) i; count = u .count }))
 
-module _ (m x : List ℕ) where
-  abbrev size : ℕ
-  size = length m
-
-  -- the refusal of an access outside memory, and what follows keeps it
-  refused-outside : (g : List ℕ → Work → Work) → Stays g → (kind a : ℕ) → kindFetch ≤ kind → kind ≤ kindStore → length m ≤ index a
-      → (w v′ : Work) → Unrefused size w → Alike size (g m (refuseAt outside kind a w)) v′
-  unfolding refuseAt
-  refused-outside g s kind a low high h w v′ u =
-      let e : refuseAt outside kind a w ≡ record { regs = w .regs; stored = w .stored; answer = outside; kind = kind; address = a } = rw (yes-eq (u .none)) in
-      let f = s m outside kind a (never-turns outside kind a (λ z. omega (arith, z))) _ (subst (Fine (AnswerIs outside kind a)) (sym e) (record { count = u .count; known = (refl, refl, refl); ten = never-turns outside kind a (λ z. omega (arith, z)) outside })) in
-      beyond (f .known .0) (f .count) (record { least = rw (f .known .1) low; most = rw (f .known .1) high; away = rw (f .known .2) h })
-
-  outside-refused : (kind a : ℕ) (w : Work) → length m ≤ index a → access m kind a w ≡ refuseAt outside kind a w
-  unfolding access
-  outside-refused kind a w h = no-lt h w (refuseAt outside kind a w)
-
-  pub longer : (i : ℕ) → i < length m → i < length (m ++ x)
-  longer i h = omega (arith, length-append m x)
-
-  -- an access, then what follows: where it is inside, what follows is to be related of the same work; R is Alike, or weaker
-  pub access-then : (R : Work → Work → Type 0) → ((v v′ : Work) → Alike size v v′ → R v v′)
-      → (kind a : ℕ) → kindFetch ≤ kind → kind ≤ kindStore → (g g′ : List ℕ → Work → Work) → Stays g → (w : Work) → Unrefused size w
-      → (index a < length m → R (g m w) (g′ (m ++ x) w)) → R (g m (access m kind a w)) (g′ (m ++ x) (access (m ++ x) kind a w))
-  access-then R weaker kind a low high g g′ s w u one =
-      cases-lt (index a) (length m)
-      (λ h. rw (inside-same m kind a w h, inside-same (m ++ x) kind a w (longer (index a) h)) (one h))
-      (λ h. weaker _ _ (rw (outside-refused kind a w h) (refused-outside g s kind a low high h w (g′ (m ++ x) (access (m ++ x) kind a w)) u)))
-
-  pub same-word : (a : ℕ) (w : Work) → Unrefused size w → index a < length m → wordAt (m ++ x) a w ≡ wordAt m a w
-  unfolding wordAt
-  same-word a w u h = word-appended m x (w .stored) (index a) (u .inside) h
+-- answer 10 for an access outside memory
+beyond-with : {size : ℕ} (kind a : ℕ) → kindFetch ≤ kind → kind ≤ kindStore → size ≤ index a → {v v′ : Work} → Fine (AnswerIs outside kind a) v → Alike size v v′
+beyond-with kind a low high h f =
+    beyond (f .known .0) (f .count) (record { least = rw (f .known .1) low; most = rw (f .known .1) high; away = rw (f .known .2) h })
 
 module _ {A : ℕ → Type 0} where
-  -- an access at a, and what follows with a value of the word there
+  -- access a, then do g: compare g from the same work only where a is inside memory
+  access-then : (kind a : ℕ) → kindFetch ≤ kind → kind ≤ kindStore → (w : Work) (g : List ℕ → Work → Work)
+      → ((P : ℕ → ℕ → ℕ → Type 0) → ((n : ℕ) → A n → Turns P n) → (mem : List ℕ) (v : Work) → Fine P v → Fine P (g mem v))
+      → ((m x : List ℕ) → length m < 2 ^ 30 → Unrefused (length m) w → index a < length m → Alike (length m) (g m w) (g (m ++ x) w))
+      → Lawful A w (λ mem. g mem (access mem kind a w))
+  access-then kind a low high w g k one =
+      record {
+        keeps = λ P t mem f. k P t mem _ (fine-access mem kind a f);
+        alike = λ m x small u.
+            cases-lt (index a) (length m)
+            (λ h. rw (inside-same m kind a w h, inside-same (m ++ x) kind a w (longer m x (index a) h)) (one m x small u h))
+            (λ h. beyond-with kind a low high h (k _ (λ n z. never-turns outside kind a (λ z. omega (arith, z)) n) m _ (fine-outside m kind a w (u .count) (u .none) h)));
+      }
+
+  -- access a, then do next with a value of the word there
   on-access : (kind a : ℕ) → kindFetch ≤ kind → kind ≤ kindStore → (value : ℕ → ℕ) {next : List ℕ → ℕ → Work → Work} → ((v : ℕ) → Law A (λ mem. next mem v))
       → (w : Work) → Lawful A w (λ mem. next mem (value (wordAt mem a w)) (access mem kind a w))
   on-access kind a low high value {next} l w =
-      record {
-        keeps = λ P t mem f. l _ _ .keeps P t mem (fine-access mem kind a f);
-        alike = λ m x small u.
-          access-then m x (Alike (length m)) (λ v v′ r. r) kind a low high
-          (λ mem. next mem (value (wordAt m a w))) (λ mem. next mem (value (wordAt (m ++ x) a w))) (stays (l (value (wordAt m a w)))) w u
-          (λ h. rw (same-word m x a w u h) (l (value (wordAt m a w)) w .alike m x small u));
-      }
+      access-then kind a low high w (λ mem. next mem (value (wordAt mem a w))) (λ P t mem v f. l _ v .keeps P t mem f)
+      (λ m x small u h. rw (same-word m x a w u h) (l (value (wordAt m a w)) w .alike m x small u))
 
   pub lawful-access : (a : ℕ) → Law A (λ mem. access mem kindLoad a)
   lawful-access a w = on-access kindLoad a (omega arith) (omega arith) (λ v. v) (λ v u. unchanged) w
 
-  -- the load of a word, then what follows with it
+  -- load a word, then do next with it
   pub lawful-read : (a : ℕ) {next : List ℕ → ℕ → Work → Work} → ((v : ℕ) → Law A (λ mem. next mem v)) → Law A (λ mem. readWord mem a (next mem))
   lawful-read a l w = on-access kindLoad a (omega arith) (omega arith) (λ v. v) l w
 
@@ -244,17 +214,11 @@ module _ {A : ℕ → Type 0} where
   unfolding byteAt
   lawful-fetch a l w = on-access kindFetch a (omega arith) (omega arith) (byteOf (selector a)) l w
 
-  -- the store of a value of the word that is there
+  -- store a value of the word that is there
   on-store : (a : ℕ) (value : ℕ → ℕ) → Law A (λ mem w. append (word (index a) (value (wordAt mem a w))) (access mem kindStore a w))
   on-store a value w =
-      record {
-        keeps = λ P t mem f. fine-append _ (fine-access mem kindStore a f);
-        alike = λ m x small u.
-          access-then m x (Alike (length m)) (λ v v′ r. r) kindStore a (omega arith) (omega arith)
-          (λ mem. append (word (index a) (value (wordAt m a w)))) (λ mem. append (word (index a) (value (wordAt (m ++ x) a w))))
-          (λ mem n k a t w f. fine-append _ f) w u
-          (λ h. rw (same-word m x a w u h) (alike-append (word (index a) (value (wordAt m a w))) h w u));
-      }
+      access-then kindStore a (omega arith) (omega arith) w (λ mem. append (word (index a) (value (wordAt mem a w)))) (λ P t mem v f. fine-append _ f)
+      (λ m x small u h. rw (same-word m x a w u h) (alike-append (word (index a) (value (wordAt m a w))) h w u))
 
   pub lawful-wIndexWord : (base n v : ℕ) → Law A (λ mem. wIndexWord mem base n v)
   unfolding wIndexWord storeWord
@@ -294,7 +258,7 @@ module _ (m x : List ℕ) (small : length m < 2 ^ 30) where
   unfolding transfer moveOrRefuse
   alike-transfer s d n w u =
       cases-eq n 0
-      (λ e. rw (yes-eq e, yes-eq e) (self u))
+      (λ e. rw (yes-eq e, yes-eq e) (same refl u))
       (λ e. rw (no-eq e, no-eq e) (go e (moves s d n)))
     where
       go : (n ≡ 0 → ⊥) → Moves s d n → Alike (length m) (moveOrRefuse m (moveOutside m s d n) s d n w) (moveOrRefuse (m ++ x) (moveOutside (m ++ x) s d n) s d n w)
@@ -302,7 +266,8 @@ module _ (m x : List ℕ) (small : length m < 2 ^ 30) where
           rw (h, h′, yes-eq {a = 0} {b = 0} refl) (alike-append (bytes (offset s) (offset d) n) (p (omega (arith, e)), q (omega (arith, e))) w u)
       go e (leaves l h o) =
           rw (no-eq {a = moveOutside m s d n .0} {b = 0} (λ z. omega (arith, z, l)))
-          (refused-outside m x (λ mem v. v) (λ mem n k a t w f. f) (moveOutside m s d n .0) (moveOutside m s d n .1) l h o w _ u)
+          (beyond-with _ _ l h o (rw (refused-with outside (moveOutside m s d n .0) (moveOutside m s d n .1) w (u .none))
+          (record { count = u .count; known = (refl, refl, refl); ten = never-turns outside _ _ (λ z. omega (arith, z)) outside })))
 
 pub lawful-transfer : {A : ℕ → Type 0} (s d n : ℕ) → Law A (λ mem. transfer mem s d n)
 lawful-transfer s d n w = record { keeps = λ P t mem f. fine-transfer mem s d n f; alike = λ m x small u. alike-transfer m x small s d n w u }

@@ -8,13 +8,12 @@ use native.Mathlib.Omega.{arith}
 use lib.ListN.{length, getD}
 use Rattle.rules.specs.Words.{index}
 use Rattle.rules.specs.Registers.{registers, iptrReg}
-use Rattle.rules.specs.Work.{begin, reg, kindFetch, outside, halted, idle, stop, unlisted, refuseAt, access, Work}
+use Rattle.rules.specs.Work.{begin, reg, kindFetch, outside, halted, idle, stop, unlisted, Work}
 use Rattle.rules.specs.Timers.{timerReady}
 use Rattle.rules.specs.Step.{haltIfAsked, haltOnError, fetched, execute, decode, instruction, instructionUnlessIdle, timersFirst, channelsFirst, choose, step}
-use Rattle.rules.proofs.Tests.{yes-eq, no-lt}
 use Rattle.laws.specs.Alike.{Alike}
 use Rattle.laws.proofs.Fine.{Fine, Turns}
-use Rattle.laws.proofs.Lawful.{Law, kept, AnswerIs, never-turns, _then_, unchanged, lawful-eq, lawful-fetch, lawful-lt, lawful-pick, lawful-put, lawful-putCore, lawful-raise, lawful-refuse}
+use Rattle.laws.proofs.Lawful.{Law, kept, AnswerIs, never-turns, fine-outside, _then_, unchanged, lawful-eq, lawful-fetch, lawful-lt, lawful-pick, lawful-put, lawful-putCore, lawful-raise, lawful-refuse}
 use Rattle.laws.proofs.LawfulScheduling.{lawful-actOnSNP}
 use Rattle.laws.proofs.LawfulTimers.{lawful-handleTimerRequest}
 use Rattle.laws.proofs.LawfulChannels.{lawful-handleChannelRequest}
@@ -75,11 +74,9 @@ abbrev pub FetchRefused : List ℕ → Work → Type 0
 FetchRefused r w = Fine (AnswerIs outside kindFetch (getD r iptrReg 0)) w
 
 pub fetch-refused : (r mem : List ℕ) → length r ≡ registers → length mem ≤ index (getD r iptrReg 0) → FetchRefused r (instruction mem (begin r))
-unfolding instruction access refuseAt
-fetch-refused r mem h o = kept (lawful-decode (turns stop) (turns unlisted) _) mem (kept (lawful-fetched _) mem refused)
+unfolding instruction
+fetch-refused r mem h o =
+    kept (lawful-decode (turns stop) (turns unlisted) _) mem (kept (lawful-fetched _) mem (fine-outside mem kindFetch (getD r iptrReg 0) (begin r) h refl o))
   where
     turns : (number : ℕ) → Turns (AnswerIs outside kindFetch (getD r iptrReg 0)) number
     turns = never-turns outside kindFetch (getD r iptrReg 0) (λ z. omega (arith, z))
-
-    refused : FetchRefused r (access mem kindFetch (getD r iptrReg 0) (begin r))
-    refused = rw (no-lt o, yes-eq {a = 0} {b = 0} refl) (record { count = h; known = (refl, refl, refl); ten = turns outside })

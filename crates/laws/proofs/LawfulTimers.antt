@@ -1,11 +1,13 @@
 -- Every definition of Timers.antt (timer queues) is lawful: a walk that comes to a ring in memory comes to that ring in a longer memory, whose budget is larger.
 use mathlib.Core.Path.{_≡_, refl, sym, ap, _∙_}
-use mathlib.Core.Bool.{Bool, false}
+use mathlib.Core.Bool.{Bool, true, false}
 use mathlib.Core.List.{List, _++_}
 use Prim.Native.Nat.{ℕ, zero, suc, _+_, _≤_, _<_}
 use native.Mathlib.Omega.{arith}
 use borrow.Author.Tests.{le-leb, lt-leb, eq-eqb, ne-eqb}
 use lib.ListN.{length, length-append}
+use lib.Dec.{eqb}
+use Rattle.rules.specs.Tests.{pick, ifEq}
 use Rattle.rules.specs.Words.{atWord, index, later}
 use Rattle.rules.specs.Registers.{areg, breg, creg, clockReg}
 use Rattle.rules.specs.Work.{Work, reg, wptr, priority, outside, stop, kindLoad, refuseAt, refuse, access, wordAt}
@@ -18,23 +20,31 @@ use Rattle.laws.proofs.Fine.{Fine}
 use Rattle.laws.proofs.Calm.{never, any-fine}
 use Rattle.laws.proofs.InsertRing.{insert-goes, insert-ring, insert-tells}
 use Rattle.laws.proofs.DeleteRing.{delete-goes, delete-ring, delete-tells}
-use Rattle.laws.proofs.Lawful.{Lawful, Law, kept, refused-with, both-pick, both-eq, longer, same-word, _then_, unchanged, lawful-eq, lawful-lower, lawful-pick, lawful-put, lawful-read, lawful-rIndexWord, lawful-stop, lawful-wIndexWord}
+use Rattle.laws.proofs.Lawful.{Lawful, Law, kept, refused-with, longer, same-word, _then_, unchanged, lawful-eq, lawful-lower, lawful-pick, lawful-put, lawful-read, lawful-rIndexWord, lawful-stop, lawful-wIndexWord}
 use Rattle.laws.proofs.LawfulScheduling.{lawful-run, lawful-wait}
 use Rattle.laws.proofs.LawfulTimerQueues.{lawful-setNext, lawful-insertWalk, lawful-deleteWalk}
 
 -- ---- a walk whose budget is N + 2, for a memory of N words
 
--- what is not refused is the same
+-- b is a, if a is not refused
 abbrev More : Work → Work → Type 0
 More a b = a .answer ≡ 0 → b ≡ a
+
+more-pick : (t : Bool) {a b a′ b′ : Work} → More a a′ → More b b′ → More (pick t a b) (pick t a′ b′)
+more-pick true p q = p
+more-pick false p q = q
+
+more-eq : (i j : ℕ) {a b a′ b′ : Work} → More a a′ → More b b′ → More (ifEq i j a b) (ifEq i j a′ b′)
+unfolding ifEq
+more-eq i j p q = more-pick (eqb i j) p q
+
+more-stop : (w v : Work) → More (refuse stop w) v
+unfolding refuseAt
+more-stop w v e = absurd (cases-eq (w .answer) 0 (λ z. omega (arith, ap (λ (u : Work). u .answer) (refused-with stop 0 0 w z), e)) (λ z. z (rw (no-eq z) at e)))
 
 -- no other refusal than 10 or 11
 abbrev Only : ℕ → ℕ → ℕ → Type 0
 Only n k a = (n ≡ 0 → ⊥) → (n ≡ outside → ⊥) → n ≡ stop
-
-stop-refused : (w v : Work) → More (refuse stop w) v
-unfolding refuseAt
-stop-refused w v e = absurd (cases-eq (w .answer) 0 (λ z. omega (arith, refused-with stop w z, e)) (λ z. z (rw (no-eq z) at e)))
 
 module _ (walk : ℕ → List ℕ → Work → Work) (law : (A : ℕ → Type 0) → A stop → (turns : ℕ) → Law A (walk turns))
     -- more turns change nothing but a refusal
@@ -73,12 +83,12 @@ ring-longer next next′ ends ends′ on {passed} {p} (goes h k l) e =
 module _ (time previous : ℕ) where
   insert-more : (turns turns′ previous : ℕ) → turns ≤ turns′ → (mem : List ℕ) (w : Work) → More (insertWalk mem turns time previous w) (insertWalk mem turns′ time previous w)
   unfolding insertWalk
-  insert-more zero turns′ previous l mem w = stop-refused w _
+  insert-more zero turns′ previous l mem w = more-stop w _
   insert-more (suc turns) zero previous l mem w = absurd (omega arith)
   insert-more (suc turns) (suc turns′) previous l mem w =
       let p = wordAt mem previous w in
-      both-eq More p notProcess (λ e. refl)
-      (both-pick More (later time (wordAt mem (atWord p timeS) (access mem kindLoad previous w))) (insert-more turns turns′ (atWord p tlinkS) (omega arith) mem _) (λ e. refl))
+      more-eq p notProcess (λ e. refl)
+      (more-pick (later time (wordAt mem (atWord p timeS) (access mem kindLoad previous w))) (insert-more turns turns′ (atWord p tlinkS) (omega arith) mem _) (λ e. refl))
 
   insert-again : (m x : List ℕ) (w : Work) → Unrefused (length m) w
       → insertWalk m (length m + 2) time previous w .answer ≡ stop → insertWalk (m ++ x) (length (m ++ x) + 2) time previous w .answer ≡ stop
@@ -92,9 +102,11 @@ module _ (time previous : ℕ) where
     where
       on : (p : ℕ) → insertEnds m w time p ≡ false → (insertEnds (m ++ x) w time p ≡ false) × (nextPointer (m ++ x) w p ≡ nextPointer m w p)
       on p k =
-          let g = insert-goes m time w (u .count) (u .none) p k in
-          (rw (ne-eqb p notProcess (g .0), lt-leb (length (m ++ x)) (index (atWord p timeS)) (longer m x _ (g .1)), same-word m x (atWord p timeS) w u (g .1), g .2)
-          (lt-leb (length (m ++ x)) (index (atWord p tlinkS)) (longer m x _ (g .3))), same-word m x (atWord p tlinkS) w u (g .3))
+          let g = insert-goes m time w (u .count) (u .none) p k in (
+            rw (ne-eqb p notProcess (g .0), lt-leb (length (m ++ x)) (index (atWord p timeS)) (longer m x _ (g .1)), same-word m x (atWord p timeS) w u (g .1), g .2)
+                (lt-leb (length (m ++ x)) (index (atWord p tlinkS)) (longer m x _ (g .3))),
+            same-word m x (atWord p tlinkS) w u (g .3),
+          )
 
   lawful-insertBudget : {A : ℕ → Type 0} → A stop → Law A (λ mem. insertWalk mem (length mem + 2) time previous)
   lawful-insertBudget s = lawful-budget (λ turns mem. insertWalk mem turns time previous) (λ A s turns. lawful-insertWalk s turns time previous) (λ turns turns′. insert-more turns turns′ previous) insert-again s
@@ -102,9 +114,9 @@ module _ (time previous : ℕ) where
 module _ (previous : ℕ) where
   delete-more : (turns turns′ previous : ℕ) → turns ≤ turns′ → (mem : List ℕ) (w : Work) → More (deleteWalk mem turns previous w) (deleteWalk mem turns′ previous w)
   unfolding deleteWalk
-  delete-more zero turns′ previous l mem w = stop-refused w _
+  delete-more zero turns′ previous l mem w = more-stop w _
   delete-more (suc turns) zero previous l mem w = absurd (omega arith)
-  delete-more (suc turns) (suc turns′) previous l mem w = both-eq More _ _ (λ e. refl) (delete-more turns turns′ _ (omega arith) mem _)
+  delete-more (suc turns) (suc turns′) previous l mem w = more-eq _ _ (λ e. refl) (delete-more turns turns′ _ (omega arith) mem _)
 
   delete-again : (m x : List ℕ) (w : Work) → Unrefused (length m) w
       → deleteWalk m (length m + 2) previous w .answer ≡ stop → deleteWalk (m ++ x) (length (m ++ x) + 2) previous w .answer ≡ stop

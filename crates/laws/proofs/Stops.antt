@@ -23,8 +23,8 @@ use Rattle.rules.proofs.Tests.{yes-lt, no-lt, yes-eq, no-eq, cases-eq, cases-lt
 use Rattle.laws.specs.Lists.{listed}
 use Rattle.laws.specs.Ring.{isOutside}
 use Rattle.laws.specs.Stops.{Place, going, insertStops, shiftStops, longShiftStops, isMark, unmarked, enbtStops, tinStops, distStops, stateLoaded, markStops, taltwtStops, deleteStops, stopPlaces, canStop, nowhere, readyOrWaiting, channelStatus, requestStops, timerStops}
-use Rattle.laws.proofs.Fine.{fine-access, fine-put, fine-putCore, fine-lower, fine-rIndexWord, fine-wIndexWord, fine-refuse}
-use Rattle.laws.proofs.Lawful.{kept}
+use Rattle.laws.proofs.Fine.{fine-access, fine-put, fine-putCore, fine-refuse}
+use Rattle.laws.proofs.Lawful.{kept, lawful-lower, lawful-rIndexWord, lawful-wIndexWord}
 use Rattle.laws.proofs.LawfulScheduling.{lawful-wait}
 use Rattle.laws.proofs.LawfulTimers.{lawful-deleteFirstStep, lawful-distLink, lawful-distReady, lawful-dropB, lawful-enbtEarlier, lawful-enbtFirst, lawful-enbtGuard, lawful-enbtLink, lawful-nextTime, lawful-timeNow, lawful-timedOut, lawful-timerStatus, lawful-timerUnlink}
 use Rattle.laws.proofs.LawfulChannels.{lawful-handleRunRequest, lawful-readyContent, lawful-readyStatus, lawful-readyWaiting}
@@ -100,11 +100,11 @@ mark-stops m {w} c =
     cases-eq (reg breg w) timeNotSet
     (λ e. rw (yes-eq e, eq-eqb (reg breg w) timeNotSet e, ne-eqb (reg breg w) timeSet (λ q. omega (arith, e, q)), and-false (going w)) (tells-calm (kept lawful-wait m c)))
     (λ n. cases-eq (reg breg w) timeSet
-    (λ e. rw (no-eq n, yes-eq e, eq-eqb (reg breg w) timeSet e, ne-eqb (reg breg w) timeNotSet n, and-false (going w)) (time-stops m loaded (kept lawful-timeNow m (fine-wIndexWord m _ _ _ loaded))))
+    (λ e. rw (no-eq n, yes-eq e, eq-eqb (reg breg w) timeSet e, ne-eqb (reg breg w) timeNotSet n, and-false (going w)) (time-stops m loaded (kept lawful-timeNow m (kept (lawful-wIndexWord _ _ _) m loaded))))
     (λ k. rw (no-eq n, no-eq k, ne-eqb (reg breg w) timeSet k, ne-eqb (reg breg w) timeNotSet n) neither))
   where
     loaded : Calm (rIndexWord m (wptr w) timeS areg w)
-    loaded = fine-rIndexWord m _ _ _ c
+    loaded = kept (lawful-rIndexWord _ _ _) m c
 
     neither : Tells ((going w && true) || false) (refuse stop w)
     neither = or-false (going w && true) ∙ tells-going w (refuse stop w) true c (λ P t f. fine-refuse stop (t stop) f) (λ e. tells-stop w e)
@@ -114,10 +114,10 @@ unfolding taltwtStops taltwt taltwtState
 taltwt-stops m {w} b =
     cases-eq (reg creg (stateLoaded m w)) ready
     (λ e. rw (yes-eq e, eq-eqb (reg creg (stateLoaded m w)) ready e) (tells-calm (kept lawful-timeNow m loaded)))
-    (λ e. rw (no-eq e, ne-eqb (reg creg (stateLoaded m w)) ready e) (mark-stops m (fine-rIndexWord m _ _ _ loaded)))
+    (λ e. rw (no-eq e, ne-eqb (reg creg (stateLoaded m w)) ready e) (mark-stops m (kept (lawful-rIndexWord _ _ _) m loaded)))
   where
     loaded : Calm (stateLoaded m w)
-    loaded = fine-rIndexWord m _ _ _ (fine-wIndexWord m _ _ _ (calm b))
+    loaded = kept (lawful-rIndexWord _ _ _) m (kept (lawful-wIndexWord _ _ _) m (calm b))
 
 -- ---- enbt and dist
 
@@ -184,14 +184,14 @@ front-stops m queue front {w} c =
 pub timer-stops : (m : List ℕ) (queue : ℕ) {w : Work} → Begun w → Tells (timerStops queue m w) (handleTimerRequest m queue w)
 unfolding timerStops handleTimerRequest timerServe timerFront lower put wordAt
 timer-stops m queue {w} b =
-    front-stops m queue _ (kept (lawful-timerUnlink _ _ _) m (fine-access m kindLoad _ (fine-access m kindLoad _ (fine-lower flagsReg (tEnabled queue) (calm b)))))
+    front-stops m queue _ (kept (lawful-timerUnlink _ _ _) m (fine-access m kindLoad _ (fine-access m kindLoad _ (kept (lawful-lower flagsReg (tEnabled queue)) m (calm b)))))
 
 ready-status-stops : (m : List ℕ) (content status : ℕ) {w : Work} → Begun w
     → Tells (not (eqb status enabling || readyOrWaiting status)) (readyStatus m content status w)
 unfolding readyStatus
 ready-status-stops m content status {w} b =
     cases-eq status enabling
-    (λ e. rw (yes-eq e, eq-eqb status enabling e) (tells-calm (fine-wIndexWord m _ _ _ (calm b))))
+    (λ e. rw (yes-eq e, eq-eqb status enabling e) (tells-calm (kept (lawful-wIndexWord _ _ _) m (calm b))))
     (λ l. cases-eq status ready
     (λ e. rw (no-eq l, yes-eq e, ne-eqb status enabling l, eq-eqb status ready e) (tells-calm (calm b)))
     (λ n. cases-eq status waiting
@@ -211,14 +211,14 @@ content-stops m hc {w} b =
 
 lowered : (k mask : ℕ) {w : Work} → Begun w → Begun (lower k mask w)
 unfolding lower put
-lowered k mask {w} b = record { count = fine-lower k mask (any-fine w (b .count)) .count; none = b .none }
+lowered k mask {w} b = record { count = kept (lawful-lower k mask) [] (any-fine w (b .count)) .count; none = b .none }
 
 pub request-stops : (m : List ℕ) (hc : ℕ) {w : Work} → Begun w → Tells (requestStops hc m w) (handleChannelRequest m hc w)
 unfolding requestStops handleChannelRequest lower put wordAt
 request-stops m hc {w} b =
     cases-eq (bitAnd (reg (channelReg hc) w) runRequest) 0
     (λ e. rw (yes-eq e, eq-eqb (bitAnd (reg (channelReg hc) w) runRequest) 0 e) (content-stops m hc (lowered (channelReg hc) readyRequest b)))
-    (λ e. rw (no-eq e, ne-eqb (bitAnd (reg (channelReg hc) w) runRequest) 0 e) (tells-calm (kept (lawful-handleRunRequest hc) m (fine-lower (channelReg hc) runRequest (calm b)))))
+    (λ e. rw (no-eq e, ne-eqb (bitAnd (reg (channelReg hc) w) runRequest) 0 e) (tells-calm (kept (lawful-handleRunRequest hc) m (kept (lawful-lower (channelReg hc) runRequest) m (calm b)))))
 
 -- ---- operations
 

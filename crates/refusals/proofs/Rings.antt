@@ -21,8 +21,7 @@ use Rattle.rules.specs.declared.Machine.{Machine}
 use Rattle.rules.proofs.Tests.{yes}
 use Rattle.laws.specs.Ring.{isOutside, insertRings}
 use Rattle.laws.specs.Stops.{going, insertStarted, insertStops, deleteStarted, deleteStops, InsertsInRing, DeletesInRing, TinRing, DistRing, tinStops, distStops, stateLoaded, linkLoaded, timeLoaded, markStops, taltwtStops, stopPlaces, nowhere}
-use Rattle.laws.proofs.Fine.{fine-wIndexWord, fine-rIndexWord}
-use Rattle.laws.proofs.Lawful.{kept}
+use Rattle.laws.proofs.Lawful.{kept, lawful-rIndexWord, lawful-wIndexWord}
 use Rattle.laws.proofs.LawfulTimers.{lawful-nextTime}
 use Rattle.laws.proofs.Calm.{never, and-false, any-fine}
 use Rattle.laws.proofs.InsertRing.{insert-rings}
@@ -182,4 +181,4 @@ module _ (m : Machine) (mem j : List ℕ) (h : length (m .regs) ≡ registers) (
     taltwt-ring c n t = iff-trans step-stops (iff-same _ _ (at-place 0x51 c ∙ marked mem start n t) (tin-iff mem large (timeLoaded mem (linkLoaded mem (stateLoaded mem start))) loaded))
       where
         loaded : length (timeLoaded mem (linkLoaded mem (stateLoaded mem start)) .regs) ≡ registers
-        loaded = fine-rIndexWord mem _ _ _ (fine-rIndexWord mem _ _ _ (fine-rIndexWord mem _ _ _ (fine-wIndexWord mem _ _ _ (any-fine start h)))) .count
+        loaded = kept (lawful-rIndexWord _ _ _) mem (kept (lawful-rIndexWord _ _ _) mem (kept (lawful-rIndexWord _ _ _) mem (kept (lawful-wIndexWord _ _ _) mem (any-fine start h)))) .count
