@@ -55,8 +55,8 @@ attempt-stops t {w} b = go (t .stops)
     go false = tells-calm (fine-putCore (t .core) (calm b))
 
 -- an operation that Stops above a count
-above : (n count : ℕ) (x y : Attempt) → x .stops ≡ true → y .stops ≡ false → ltb n count ≡ ifLt n count x y .stops
-above n count x y p q =
+stops-above : (n count : ℕ) (x y : Attempt) → x .stops ≡ true → y .stops ≡ false → ltb n count ≡ ifLt n count x y .stops
+stops-above n count x y p q =
     cases-lt n count
     (λ h. rw (yes-lt h, lt-ltb n count h) (sym p))
     (λ h. rw (no-lt h, le-ltb n count h) (sym q))
@@ -64,19 +64,19 @@ above n count x y p q =
 module _ (m : List ℕ) {w : Work} (b : Begun w) where
   shl-stops : Tells (shiftStops m w) (onAttempt stack.shl w)
   unfolding stack.shl coreOf
-  shl-stops = above 32 (reg areg w) _ _ refl refl ∙ attempt-stops (stack.shl (coreOf (w .regs))) b
+  shl-stops = stops-above 32 (reg areg w) _ _ refl refl ∙ attempt-stops (stack.shl (coreOf (w .regs))) b
 
   shr-stops : Tells (shiftStops m w) (onAttempt stack.shr w)
   unfolding stack.shr coreOf
-  shr-stops = above 32 (reg areg w) _ _ refl refl ∙ attempt-stops (stack.shr (coreOf (w .regs))) b
+  shr-stops = stops-above 32 (reg areg w) _ _ refl refl ∙ attempt-stops (stack.shr (coreOf (w .regs))) b
 
   lshl-stops : Tells (longShiftStops m w) (onAttempt stack.lshl w)
   unfolding stack.lshl coreOf
-  lshl-stops = above 64 (reg areg w) _ _ refl refl ∙ attempt-stops (stack.lshl (coreOf (w .regs))) b
+  lshl-stops = stops-above 64 (reg areg w) _ _ refl refl ∙ attempt-stops (stack.lshl (coreOf (w .regs))) b
 
   lshr-stops : Tells (longShiftStops m w) (onAttempt stack.lshr w)
   unfolding stack.lshr coreOf
-  lshr-stops = above 64 (reg areg w) _ _ refl refl ∙ attempt-stops (stack.lshr (coreOf (w .regs))) b
+  lshr-stops = stops-above 64 (reg areg w) _ _ refl refl ∙ attempt-stops (stack.lshr (coreOf (w .regs))) b
 
 -- ---- tin and taltwt
 

@@ -190,7 +190,7 @@ module _ (m : Machine) (mem j : List ℕ) where
       (commit-or-refuse-answer m mem j _ (links.take mem c (begin (m .regs))) ((8, takeNotReady c (m .regs)) ∷ (10, pointerOutside c (m .regs) mem) ∷ []) 0
       (λ t. omega arith, (λ t. omega arith, tt)) (take-own c (m .regs) mem) (λ z. no-pairs _ _ (take-stored mem c (m .regs))))
 
-  pub give-exactly : (c byte : ℕ) → rules.give c byte m mem j .answer ≡ firstOf (giveNumbers c byte m mem j)
+  pub give-exactly : (c byte : ℕ) → rules.give c byte m mem j .answer ≡ firstOf (giveNumbers c m mem j)
   unfolding rules.give
   give-exactly c byte =
       checked-answer (rules.notInput c) m mem j _ _

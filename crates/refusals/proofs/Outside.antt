@@ -143,9 +143,9 @@ module _ (m : Machine) (mem x j : List ℕ) where
 -- ---- THE FETCH: where (c) applies and Iptr is outside memory, the answer is 10, of a fetch there
 
 module _ (r mem : List ℕ) (h : length r ≡ registers) (o : length mem ≤ index (getD r iptrReg 0)) where
-  step-lost : isHalted r ≡ false → isIdle r ≡ false → fetches r ≡ true → FetchRefused r (steps.step mem (begin r))
+  step-fetch-refused : isHalted r ≡ false → isIdle r ≡ false → fetches r ≡ true → FetchRefused r (steps.step mem (begin r))
   unfolding steps.step
-  step-lost k i f =
+  step-fetch-refused k i f =
       cases-eq (bitAnd (getD r flagsReg 0) haltedFlag) 0
       (λ e. rw (yes-eq e)
       (kept (lawful-haltOnError _) mem (by-choice r mem (FetchRefused r) i (λ z a. never (sym z ∙ f)) (λ z a b. never (sym z ∙ f)) (λ z a b. never (sym z ∙ f)) (λ z. fetch-refused r mem h o))))
@@ -159,5 +159,5 @@ pub step-fetch-outside : (m : Machine) (mem j : List ℕ) → length (m .regs) �
     × (steps.step mem (begin (m .regs)) .address ≡ getD (m .regs) iptrReg 0)
 unfolding rules.step checked commitOrRefuse
 step-fetch-outside m mem j h s f k i c o =
-    let q = step-lost (m .regs) mem h o k i c .known in
+    let q = step-fetch-refused (m .regs) mem h o k i c .known in
     (rw (s, f, no-eq {a = steps.step mem (begin (m .regs)) .answer} {b = 0} (λ z. omega (arith, z, q .0))) (q .0), q .1, q .2)

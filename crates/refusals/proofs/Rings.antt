@@ -110,8 +110,8 @@ module _ (r mem : List ℕ) (h : length r ≡ registers) (busy : isIdle r ≡ fa
       let e : steps.choose mem (begin r) .answer ≡ 11 = eqb-true (steps.choose mem (begin r) .answer) 11 (sym (own-eleven r mem h busy) ∙ s) in
       (own-nine r mem h busy ∙ ne-eqb (steps.choose mem (begin r) .answer) 9 (λ q. omega (arith, e, q)), ne-eqb (steps.choose mem (begin r) .answer) 10 (λ q. omega (arith, e, q)))
 
-above : (n k : ℕ) → (ltb n k ≡ true) ↔ (n < k)
-above n k = ((λ e. ltb-true n k e), λ e. lt-ltb n k e)
+ltb-iff : (n k : ℕ) → (ltb n k ≡ true) ↔ (n < k)
+ltb-iff n k = ((λ e. ltb-true n k e), λ e. lt-ltb n k e)
 
 eleven : (u o s f : Bool) → _≡_ {A = ℕ} (pick u 9 (pick o 10 (pick s 11 (pick f 12 0)))) 11 → s ≡ true
 eleven true o s f e = absurd (omega (arith, e))
@@ -161,12 +161,12 @@ module _ (m : Machine) (mem j : List ℕ) (h : length (m .regs) ≡ registers) (
     pub shift-call : (nextCode r mem ≡ 0x41) ⊎ (nextCode r mem ≡ 0x40) → (rules.step m mem j .answer ≡ 11) ↔ (32 < getD r areg 0)
     shift-call c =
         iff-trans step-stops
-        (iff-same _ _ (⊎-elim (at-place 0x41) (at-place 0x40) c) (above 32 (getD r areg 0)))
+        (iff-same _ _ (⊎-elim (at-place 0x41) (at-place 0x40) c) (ltb-iff 32 (getD r areg 0)))
 
     pub long-shift-call : (nextCode r mem ≡ 0x36) ⊎ (nextCode r mem ≡ 0x35) → (rules.step m mem j .answer ≡ 11) ↔ (64 < getD r areg 0)
     long-shift-call c =
         iff-trans step-stops
-        (iff-same _ _ (⊎-elim (at-place 0x36) (at-place 0x35) c) (above 64 (getD r areg 0)))
+        (iff-same _ _ (⊎-elim (at-place 0x36) (at-place 0x35) c) (ltb-iff 64 (getD r areg 0)))
 
     -- THE RINGS, of a call
     pub tin-ring : nextCode r mem ≡ 0x2B → (rules.step m mem j .answer ≡ 11) ↔ TinRing mem start
