@@ -2,7 +2,7 @@
 -- words appended, the results are alike. This file proves both of the parts that all work is made of; each chapter follows by composing the parts.
 use mathlib.Core.Path.{_≡_, refl, sym, subst, _∙_}
 use mathlib.Core.Bool.{Bool, true, false}
-use mathlib.Core.List.{List, [], _++_}
+use mathlib.Core.List.{List, _++_}
 use Prim.Native.Nat.{ℕ, zero, suc, _+_, _*_, _^_, _≤_, _<_}
 use native.Mathlib.Omega.{arith}
 use lib.Dec.{ltb, leb, eqb}
@@ -13,11 +13,10 @@ use Rattle.rules.specs.Registers.{registers}
 use Rattle.rules.specs.Memory.{Store, word, bytes}
 use Rattle.rules.specs.Work.{Work, put, raise, lower, gotoSNP, putCore, putSystem, putBoth, outside, stop, kindFetch, kindLoad, kindStore, refuseAt, refuse, append, attempted, wordAt, byteAt, access, fetchByte, readWord, storeWord, storeByte, rIndexWord, rIndexByte, wIndexWord, moveOutside, moveOrRefuse, transfer}
 use Rattle.rules.specs.declared.Core.{Core}
-use Rattle.rules.specs.declared.System.{System}
 use Rattle.rules.specs.declared.Attempt.{Attempt}
 use Rattle.rules.specs.declared.Both.{Both}
 use Rattle.rules.proofs.Tests.{yes-lt, no-lt, yes-eq, no-eq, cases-lt, cases-eq}
-use Rattle.laws.specs.Alike.{StoreInside, Witness, Unrefused, Alike, beyond, refused, same}
+use Rattle.laws.specs.Alike.{StoreInside, Unrefused, Alike, beyond, refused, same}
 use Rattle.laws.proofs.Fine.{Fine, Turns, fine-put, fine-putCore, fine-putSystem, fine-refuse, fine-append, fine-access, fine-transfer}
 use Rattle.laws.proofs.Calm.{any-fine, inside-same}
 use Rattle.laws.proofs.Appended.{word-appended, inside-snoc}

@@ -2,7 +2,7 @@
 use mathlib.Core.Path.{_≡_, refl, sym, ap, _∙_}
 use mathlib.Core.Bool.{Bool, true, false}
 use mathlib.Core.List.{List, _++_}
-use Prim.Native.Nat.{ℕ, zero, suc, _+_, _≤_, _<_}
+use Prim.Native.Nat.{ℕ, zero, suc, _+_, _≤_}
 use native.Mathlib.Omega.{arith}
 use borrow.Author.Tests.{le-leb, lt-leb, eq-eqb, ne-eqb}
 use lib.ListN.{length, length-append}
@@ -16,11 +16,10 @@ use Rattle.rules.specs.Timers.{nextTime, dropB, timedOut, timerStatus, timerWak
 use Rattle.rules.proofs.Tests.{no-eq, cases-eq, cases-lt}
 use Rattle.laws.specs.Alike.{Unrefused, Alike, beyond, refused, same}
 use Rattle.laws.specs.Ring.{Way, round, Walks, again, stays, goes, nextPointer, insertEnds, deleteEnds}
-use Rattle.laws.proofs.Fine.{Fine}
 use Rattle.laws.proofs.Calm.{never, any-fine}
 use Rattle.laws.proofs.InsertRing.{insert-goes, insert-ring, insert-tells}
 use Rattle.laws.proofs.DeleteRing.{delete-goes, delete-ring, delete-tells}
-use Rattle.laws.proofs.Lawful.{Lawful, Law, kept, refused-with, longer, same-word, _then_, unchanged, lawful-eq, lawful-lower, lawful-pick, lawful-put, lawful-read, lawful-rIndexWord, lawful-stop, lawful-wIndexWord}
+use Rattle.laws.proofs.Lawful.{Law, kept, refused-with, longer, same-word, _then_, unchanged, lawful-eq, lawful-lower, lawful-pick, lawful-put, lawful-read, lawful-rIndexWord, lawful-stop, lawful-wIndexWord}
 use Rattle.laws.proofs.LawfulScheduling.{lawful-run, lawful-wait}
 use Rattle.laws.proofs.LawfulTimerQueues.{lawful-setNext, lawful-insertWalk, lawful-deleteWalk}
 
