@@ -4,7 +4,7 @@ use mathlib.Core.Bool.{Bool, true, false}
 use mathlib.Core.List.{List, _++_}
 use Prim.Native.Nat.{ℕ, zero, suc, _+_, _≤_}
 use native.Mathlib.Omega.{arith}
-use borrow.Author.Tests.{le-leb, lt-leb, eq-eqb, ne-eqb}
+use borrow.Author.Tests.{lt-leb, ne-eqb}
 use lib.ListN.{length, length-append}
 use lib.Dec.{eqb}
 use Rattle.rules.specs.Tests.{pick, ifEq}
@@ -13,12 +13,11 @@ use Rattle.rules.specs.Registers.{areg, breg, creg, clockReg}
 use Rattle.rules.specs.Work.{Work, reg, wptr, priority, outside, stop, kindLoad, refuseAt, refuse, access, wordAt}
 use Rattle.rules.specs.Scheduling.{notProcess, timeS, tlinkS}
 use Rattle.rules.specs.Timers.{nextTime, dropB, timedOut, timerStatus, timerWake, timerNext, timerUnlink, timerFront, timerServe, handleTimerRequest, insertWalk, insertFirstStep, deleteWalk, deleteFirstStep, selectFirst, isThisSelectedProcess, tin, talt, timeNow, taltwtTime, taltwtLink, taltwtState, taltwt, enbtFirst, enbtEarlier, enbtLink, enbtGuard, enbt, distReady, distSet, distLink, dist}
-use Rattle.rules.proofs.Tests.{no-eq, cases-eq, cases-lt}
+use Rattle.rules.proofs.Tests.{no-eq, cases-eq}
 use Rattle.laws.specs.Alike.{Unrefused, Alike, beyond, refused, same}
-use Rattle.laws.specs.Ring.{Way, round, Walks, again, stays, goes, nextPointer, insertEnds, deleteEnds}
-use Rattle.laws.proofs.Calm.{never, any-fine}
-use Rattle.laws.proofs.InsertRing.{insert-goes, insert-ring, insert-tells}
-use Rattle.laws.proofs.DeleteRing.{delete-goes, delete-ring, delete-tells}
+use Rattle.laws.specs.Ring.{insertEnds, deleteEnds}
+use Rattle.laws.proofs.Calm.{any-fine}
+use Rattle.laws.proofs.TimerRings.{walk-longer, insert-goes, insert-walk, delete-goes, delete-walk}
 use Rattle.laws.proofs.Lawful.{Law, kept, refused-with, longer, same-word, _then_, unchanged, lawful-eq, lawful-lower, lawful-pick, lawful-put, lawful-read, lawful-rIndexWord, lawful-stop, lawful-wIndexWord}
 use Rattle.laws.proofs.LawfulScheduling.{lawful-run, lawful-wait}
 use Rattle.laws.proofs.LawfulTimerQueues.{lawful-setNext, lawful-insertWalk, lawful-deleteWalk}
@@ -71,14 +70,6 @@ module _ (walk : ℕ → List ℕ → Work → Work) (law : (A : ℕ → Type 0)
       go m x u (same e v) =
           same (e ∙ sym (more (length m + 2) (length (m ++ x) + 2) (omega (arith, length-append m x)) (m ++ x) w (ap (λ (y : Work). y .answer) (sym e) ∙ v .none))) v
 
--- a ring of pointers stays one where every pointer that does not end the walk keeps its next
-ring-longer : (next next′ : ℕ → ℕ) (ends ends′ : ℕ → Bool) → ((p : ℕ) → ends p ≡ false → (ends′ p ≡ false) × (next′ p ≡ next p))
-    → {passed : List ℕ} {p : ℕ} {way : Way} → Walks next ends passed p way → way ≡ round → Walks next′ ends′ passed p round
-ring-longer next next′ ends ends′ on (again h) e = again h
-ring-longer next next′ ends ends′ on (stays h k) e = absurd (let z : _≡_ {A = ℕ} 0 1 = cc in omega arith)
-ring-longer next next′ ends ends′ on {passed} {p} (goes h k l) e =
-    goes {passed = passed} {p = p} {r = round} h (on p k .0) (rw (on p k .1) (ring-longer next next′ ends ends′ on l e))
-
 module _ (time previous : ℕ) where
   insert-more : (turns turns′ previous : ℕ) → turns ≤ turns′ → (mem : List ℕ) (w : Work) → More (insertWalk mem turns time previous w) (insertWalk mem turns′ time previous w)
   unfolding insertWalk
@@ -92,20 +83,12 @@ module _ (time previous : ℕ) where
   insert-again : (m x : List ℕ) (w : Work) → Unrefused (length m) w
       → insertWalk m (length m + 2) time previous w .answer ≡ stop → insertWalk (m ++ x) (length (m ++ x) + 2) time previous w .answer ≡ stop
   unfolding insertEnds
-  insert-again m x w u e =
-      cases-lt (index previous) (length m)
-      (λ h. insert-ring (m ++ x) time w (u .count) (u .none) previous (longer m x _ h) .1
-      (rw (same-word m x previous w u h)
-      (ring-longer (nextPointer m w) (nextPointer (m ++ x) w) (insertEnds m w time) (insertEnds (m ++ x) w time) on (insert-ring m time w (u .count) (u .none) previous h .0 e) refl)))
-      (λ h. never (rw (le-leb (length m) (index previous) h) at (insert-tells m time w (u .count) (u .none) previous) ∙ eq-eqb _ _ e))
-    where
-      on : (p : ℕ) → insertEnds m w time p ≡ false → (insertEnds (m ++ x) w time p ≡ false) × (nextPointer (m ++ x) w p ≡ nextPointer m w p)
-      on p k =
-          let g = insert-goes m time w (u .count) (u .none) p k in (
-            rw (ne-eqb p notProcess (g .0), lt-leb (length (m ++ x)) (index (atWord p timeS)) (longer m x _ (g .1)), same-word m x (atWord p timeS) w u (g .1), g .2)
-                (lt-leb (length (m ++ x)) (index (atWord p tlinkS)) (longer m x _ (g .3))),
-            same-word m x (atWord p tlinkS) w u (g .3),
-          )
+  insert-again m x w u =
+      walk-longer m x (insert-walk m time w (u .count) (u .none)) (insert-walk (m ++ x) time w (u .count) (u .none)) u
+      (λ p e. let g = insert-goes m time w (u .count) (u .none) p e in
+      rw (ne-eqb p notProcess (g .0), lt-leb (length (m ++ x)) (index (atWord p timeS)) (longer m x _ (g .1)), same-word m x (atWord p timeS) w u (g .1), g .2)
+      (lt-leb (length (m ++ x)) (index (atWord p tlinkS)) (longer m x _ (g .3))))
+      previous
 
   lawful-insertBudget : {A : ℕ → Type 0} → A stop → Law A (λ mem. insertWalk mem (length mem + 2) time previous)
   lawful-insertBudget s = lawful-budget (λ turns mem. insertWalk mem turns time previous) (λ A s turns. lawful-insertWalk s turns time previous) (λ turns turns′. insert-more turns turns′ previous) insert-again s
@@ -120,17 +103,11 @@ module _ (previous : ℕ) where
   delete-again : (m x : List ℕ) (w : Work) → Unrefused (length m) w
       → deleteWalk m (length m + 2) previous w .answer ≡ stop → deleteWalk (m ++ x) (length (m ++ x) + 2) previous w .answer ≡ stop
   unfolding deleteEnds
-  delete-again m x w u e =
-      cases-lt (index previous) (length m)
-      (λ h. delete-ring (m ++ x) w (u .count) (u .none) previous (longer m x _ h) .1
-      (rw (same-word m x previous w u h)
-      (ring-longer (nextPointer m w) (nextPointer (m ++ x) w) (deleteEnds m w) (deleteEnds (m ++ x) w) on (delete-ring m w (u .count) (u .none) previous h .0 e) refl)))
-      (λ h. never (rw (le-leb (length m) (index previous) h) at (delete-tells m w (u .count) (u .none) previous) ∙ eq-eqb _ _ e))
-    where
-      on : (p : ℕ) → deleteEnds m w p ≡ false → (deleteEnds (m ++ x) w p ≡ false) × (nextPointer (m ++ x) w p ≡ nextPointer m w p)
-      on p k =
-          let g = delete-goes m w (u .count) (u .none) p k in
-          (rw (ne-eqb p (wptr w) (g .0)) (lt-leb (length (m ++ x)) (index (atWord p tlinkS)) (longer m x _ (g .1))), same-word m x (atWord p tlinkS) w u (g .1))
+  delete-again m x w u =
+      walk-longer m x (delete-walk m w (u .count) (u .none)) (delete-walk (m ++ x) w (u .count) (u .none)) u
+      (λ p e. let g = delete-goes m w (u .count) (u .none) p e in
+      rw (ne-eqb p (wptr w) (g .0)) (lt-leb (length (m ++ x)) (index (atWord p tlinkS)) (longer m x _ (g .1))))
+      previous
 
   lawful-deleteBudget : {A : ℕ → Type 0} → A stop → Law A (λ mem. deleteWalk mem (length mem + 2) previous)
   lawful-deleteBudget s = lawful-budget (λ turns mem. deleteWalk mem turns previous) (λ A s turns. lawful-deleteWalk s turns previous) (λ turns turns′. delete-more turns turns′ previous) delete-again s

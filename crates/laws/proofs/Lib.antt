@@ -1,11 +1,9 @@
 pub mod Appended
 pub mod Calls
 pub mod Calm
-pub mod DeleteRing
 pub mod Fine
 pub mod FineLinks
 pub mod FineStep
-pub mod InsertRing
 pub mod Lawful
 pub mod LawfulChannels
 pub mod LawfulData
@@ -22,6 +20,7 @@ pub mod Start
 pub mod Steps
 pub mod Stops
 pub mod Stores
+pub mod TimerRings
 pub mod Touched
 pub mod Unique
 pub mod WorkedAccesses

@@ -14,8 +14,7 @@ use Rattle.laws.specs.Stops.{going, insertStarted, deleteStarted, insert
 use Rattle.laws.proofs.Lawful.{kept, lawful-lower, lawful-wIndexWord}
 use Rattle.laws.proofs.LawfulTimerQueues.{lawful-insertWalk}
 use Rattle.laws.proofs.Calm.{Calm, any-fine, Tells, regroup, tells-going}
-use Rattle.laws.proofs.InsertRing.{insert-tells}
-use Rattle.laws.proofs.DeleteRing.{delete-tells}
+use Rattle.laws.proofs.TimerRings.{insert-tells, delete-tells}
 
 -- TPtrLoc is words 9 and 10
 queue-word : (queue : ℕ) → queue < 2 → index (tptrLoc queue) < 64

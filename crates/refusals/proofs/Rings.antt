@@ -24,8 +24,7 @@ use Rattle.laws.specs.Stops.{going, insertStarted, insertStops, deleteStarted, 
 use Rattle.laws.proofs.Lawful.{kept, lawful-rIndexWord, lawful-wIndexWord}
 use Rattle.laws.proofs.LawfulTimers.{lawful-nextTime}
 use Rattle.laws.proofs.Calm.{never, and-false, any-fine}
-use Rattle.laws.proofs.InsertRing.{insert-rings}
-use Rattle.laws.proofs.DeleteRing.{delete-rings}
+use Rattle.laws.proofs.TimerRings.{insert-rings, delete-rings}
 use Rattle.laws.proofs.Steps.{queue-inside, started-count, off-count, off-answer}
 use Rattle.refusals.specs.Conditions.{firstOf, frame, isHalted, isIdle, isUnlisted, fetches, operates, nextCode, operationStops, stepOutside, stops, full, stepPairs}
 use Rattle.refusals.proofs.Own.{own-nine, own-eleven}
