@@ -1,12 +1,11 @@
 -- Every action of the tables is lawful, so what they look up is; only a code without a row is refused with 9.
-use mathlib.Core.Path.{_≡_, refl, sym, subst}
+use mathlib.Core.Path.{_≡_, refl}
 use mathlib.Core.Bool.{Bool, true, false, _&&_, _||_}
-use mathlib.Core.List.{List, [], _∷_, _++_}
+use mathlib.Core.List.{List, [], _∷_}
 use Prim.Native.Nat.{ℕ, zero, suc, _<_}
 use native.Mathlib.Omega.{arith}
-use borrow.Author.Tests.{eqb-true, ne-eqb}
+use borrow.Author.Tests.{ne-eqb}
 use lib.Dec.{eqb}
-use Rattle.rules.specs.Tests.{pick, look}
 use Rattle.rules.specs.Registers.{oreg}
 use Rattle.rules.specs.Work.{Work, reg, stop, unlisted, refuse}
 use Rattle.rules.specs.Operations.{Action, pure, registerOperations, otherOperations, onRegisters, operations, functions, unlistedAction, operate, function}
@@ -15,6 +14,7 @@ use Rattle.rules.proofs.Tests.{cases-eq}
 use Rattle.laws.specs.Lists.{listed}
 use Rattle.laws.specs.Stops.{canStop}
 use Rattle.laws.proofs.Calm.{never}
+use Rattle.laws.proofs.Rows.{look-unlisted, Rows, none, _&_, rows-append, look-rows}
 use Rattle.laws.proofs.Lawful.{Law, lawful-attempted, lawful-putBoth, lawful-putCore, lawful-refuse}
 use Rattle.laws.proofs.LawfulScheduling.{lawful-endp, lawful-startp, lawful-stopp, lawful-lend, lawful-runp, lawful-stoperr, lawful-j}
 use Rattle.laws.proofs.LawfulData.{lawful-lb, lawful-ret, lawful-sb, lawful-savel, lawful-saveh, lawful-altend, lawful-blockMove, lawful-ldnl, lawful-ldl, lawful-call, lawful-stl, lawful-stnl}
@@ -22,14 +22,6 @@ use Rattle.laws.proofs.LawfulTimers.{lawful-tin, lawful-dist, lawful-en
 use Rattle.laws.proofs.LawfulChannels.{lawful-input, lawful-output, lawful-outbyte, lawful-outword, lawful-resetch, lawful-disc, lawful-diss, lawful-alt, lawful-altwt, lawful-enbc, lawful-enbs}
 
 -- ---- codes without a row
-
-pub look-unlisted : {A : Type 0} (t : List (ℕ × A)) (k : ℕ) (d : A) → listed k t ≡ false → look t k d ≡ d
-look-unlisted [] k d h = refl
-look-unlisted (e ∷ t) k d h = go (eqb k (e .0)) h (look-unlisted t k d)
-  where
-    go : (b : Bool) → pick b true (listed k t) ≡ false → (listed k t ≡ false → look t k d ≡ d) → pick b (e .1) (look t k d) ≡ d
-    go true z f = never (sym z)
-    go false z f = f z
 
 pub operate-unlisted : (code : ℕ) (m : List ℕ) (w : Work) → listed code operations ≡ false → operate code m w ≡ refuse unlisted w
 unfolding operate
@@ -60,38 +52,18 @@ function-listed code b n₂ n₆ h =
     let a : (listed code functions || (eqb code 2 || eqb code 6)) ≡ true = all-below 16 (λ k. listed k functions || (eqb k 2 || eqb k 6)) refl code b in
     never (rw (h, ne-eqb code 2 n₂, ne-eqb code 6 n₆) at a)
 
--- ---- a table each of whose actions has a property K; Q is what the row of a code may ask for
-
-infixr 5 _&_
-data Rows (K : Action → Type 1) (Q : ℕ → Type 0) : List (ℕ × Action) → Type 1 where
-  none : Rows K Q []
-  _&_ : {k : ℕ} {a : Action} {t : List (ℕ × Action)} → (Q k → K a) → Rows K Q t → Rows K Q ((k, a) ∷ t)
-
--- what such a table has at k has it, if the default has it where k has no row
-look-rows : (K : Action → Type 1) (Q : ℕ → Type 0) (t : List (ℕ × Action)) (k : ℕ) (d : Action) → Rows K Q t → Q k → (listed k t ≡ false → K d) → K (look t k d)
-look-rows K Q [] k d none asked h = h refl
-look-rows K Q ((n, a) ∷ t) k d (p & q) asked h = go (eqb k n) refl h (look-rows K Q t k d q asked)
-  where
-    go : (b : Bool) → eqb k n ≡ b → (pick b true (listed k t) ≡ false → K d) → ((listed k t ≡ false → K d) → K (look t k d)) → K (pick b a (look t k d))
-    go true e z f = p (subst Q (eqb-true k n e) asked)
-    go false e z f = f z
-
--- a table of operations on registers alone has the property where each such operation has it
-rows-registers : {K : Action → Type 1} {Q : ℕ → Type 0} (t : List (ℕ × (Core → Core))) → ((g : Core → Core) → K (pure g)) → Rows K Q (onRegisters t)
+-- a table of operations on registers alone has a property that each such operation has
+rows-registers : {K : ℕ → Action → Type 1} (t : List (ℕ × (Core → Core))) → ((k : ℕ) (g : Core → Core) → K k (pure g)) → Rows K (onRegisters t)
 rows-registers [] h = none
-rows-registers (e ∷ t) h = (λ s. h (e .1)) & rows-registers t h
+rows-registers (e ∷ t) h = h (e .0) (e .1) & rows-registers t h
 
-rows-append : {K : Action → Type 1} {Q : ℕ → Type 0} {s t : List (ℕ × Action)} → Rows K Q s → Rows K Q t → Rows K Q (s ++ t)
-rows-append none q = q
-rows-append (p & r) q = p & rows-append r q
+-- an operation is lawful, where A has 11 if the operation can Stop
+abbrev Operation : (ℕ → Type 0) → ℕ → Action → Type 1
+Operation A k a = (canStop k ≡ true → A stop) → Law A a
 
--- what the row of an operation asks for: A has 11, if the operation can Stop
-abbrev MayStop : (ℕ → Type 0) → ℕ → Type 0
-MayStop A k = canStop k ≡ true → A stop
-
--- what the row of a function asks for: A has 11 and 9, if the function is opr
-abbrev MayRefuse : (ℕ → Type 0) → ℕ → Type 0
-MayRefuse A k = k ≡ 0xF → A stop × A unlisted
+-- a function is lawful, where A has 11 and 9 if the function is opr
+abbrev Function : (ℕ → Type 0) → ℕ → Action → Type 1
+Function A k a = (k ≡ 0xF → A stop × A unlisted) → Law A a
 
 module _ {A : ℕ → Type 0} where
   -- ---- operations
@@ -99,7 +71,7 @@ module _ {A : ℕ → Type 0} where
   lawful-unlisted : A unlisted → Law A unlistedAction
   lawful-unlisted h = lawful-refuse unlisted h (omega arith)
 
-  others : Rows (Law A) (MayStop A) otherOperations
+  others : Rows (Operation A) otherOperations
   unfolding otherOperations canStop
   others =
       (λ s. lawful-lb) &
@@ -146,11 +118,11 @@ module _ {A : ℕ → Type 0} where
   pub lawful-operate : (code : ℕ) → (canStop code ≡ true → A stop) → (listed code operations ≡ false → A unlisted) → Law A (operate code)
   unfolding operate operations
   lawful-operate code s h =
-      look-rows (Law A) (MayStop A) operations code unlistedAction (rows-append (rows-registers registerOperations (λ g w. lawful-putCore _ w)) others) s (λ z. lawful-unlisted (h z))
+      look-rows (Operation A) operations (rows-append (rows-registers registerOperations (λ k g s w. lawful-putCore _ w)) others) code unlistedAction (λ z s. lawful-unlisted (h z)) s
 
   -- ---- functions
 
-  all-functions : Rows (Law A) (MayRefuse A) functions
+  all-functions : Rows (Function A) functions
   unfolding functions
   all-functions =
       (λ s. lawful-j) &
@@ -171,10 +143,10 @@ module _ {A : ℕ → Type 0} where
 
   pub lawful-function : A stop → A unlisted → (code : ℕ) → Law A (function code)
   unfolding function
-  lawful-function s h code = look-rows (Law A) (MayRefuse A) functions code unlistedAction all-functions (λ z. (s, h)) (λ z. lawful-unlisted h)
+  lawful-function s h code = look-rows (Function A) functions all-functions code unlistedAction (λ z q. lawful-unlisted h) (λ z. (s, h))
 
   -- the functions of a byte but opr (and the prefixes) are never refused with 9, and never Stop
   pub lawful-direct : (code : ℕ) → code < 16 → (code ≡ 2 → ⊥) → (code ≡ 6 → ⊥) → (code ≡ 0xF → ⊥) → Law A (function code)
   unfolding function
   lawful-direct code b n₂ n₆ n₁₅ =
-      look-rows (Law A) (MayRefuse A) functions code unlistedAction all-functions (λ z. absurd (n₁₅ z)) (λ z. absurd (function-listed code b n₂ n₆ z))
+      look-rows (Function A) functions all-functions code unlistedAction (λ z. absurd (function-listed code b n₂ n₆ z)) (λ z. absurd (n₁₅ z))

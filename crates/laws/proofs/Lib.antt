@@ -15,6 +15,7 @@ pub mod LawfulTimerQueues
 pub mod LawfulTimers
 pub mod Pigeon
 pub mod Ring
+pub mod Rows
 pub mod Single
 pub mod Start
 pub mod Steps

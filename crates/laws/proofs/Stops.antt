@@ -1,11 +1,11 @@
 -- The tests of the places where a step Stops tell where it does: each operation, and each request, is refused with 11 exactly where the test of
 -- its place holds (01, Answers by number, 11; DECISIONS 26, 27).
-use mathlib.Core.Path.{_≡_, refl, sym, subst, _∙_}
+use mathlib.Core.Path.{_≡_, refl, sym, _∙_}
 use mathlib.Core.Bool.{Bool, true, false, _&&_, _||_, not}
-use mathlib.Core.List.{List, [], _∷_}
+use mathlib.Core.List.{List, []}
 use Prim.Native.Nat.{ℕ}
 use native.Mathlib.Omega.{arith}
-use borrow.Author.Tests.{lt-ltb, le-ltb, eq-eqb, ne-eqb, eqb-true}
+use borrow.Author.Tests.{lt-ltb, le-ltb, eq-eqb, ne-eqb}
 use lib.Bits.{bitAnd}
 use lib.Dec.{ltb, eqb}
 use lib.ListN.{length}
@@ -19,8 +19,7 @@ use Rattle.rules.specs.Timers.{nextTime, insertFirstStep, deleteFirstStep, tin,
 use Rattle.rules.specs.Channels.{readyStatus, readyContent, handleReadyRequest, handleChannelRequest}
 use Rattle.rules.specs.Operations.{registerOperations, otherOperations, operations, operate}
 use Rattle.rules.specs.declared.Attempt.{Attempt}
-use Rattle.rules.proofs.Tests.{yes-lt, no-lt, yes-eq, no-eq, cases-eq, cases-lt, by-bool}
-use Rattle.laws.specs.Lists.{listed}
+use Rattle.rules.proofs.Tests.{yes-lt, no-lt, yes-eq, no-eq, cases-eq, cases-lt}
 use Rattle.laws.specs.Ring.{isOutside}
 use Rattle.laws.specs.Stops.{Place, going, insertStops, shiftStops, longShiftStops, isMark, unmarked, enbtStops, tinStops, distStops, stateLoaded, markStops, taltwtStops, deleteStops, stopPlaces, canStop, nowhere, readyOrWaiting, channelStatus, requestStops, timerStops}
 use Rattle.laws.proofs.Fine.{fine-access, fine-put, fine-putCore, fine-refuse}
@@ -28,7 +27,8 @@ use Rattle.laws.proofs.Lawful.{kept, lawful-lower, lawful-rIndexWord, l
 use Rattle.laws.proofs.LawfulScheduling.{lawful-wait}
 use Rattle.laws.proofs.LawfulTimers.{lawful-deleteFirstStep, lawful-distLink, lawful-distReady, lawful-dropB, lawful-enbtEarlier, lawful-enbtFirst, lawful-enbtGuard, lawful-enbtLink, lawful-nextTime, lawful-timeNow, lawful-timedOut, lawful-timerStatus, lawful-timerUnlink}
 use Rattle.laws.proofs.LawfulChannels.{lawful-handleRunRequest, lawful-readyContent, lawful-readyStatus, lawful-readyWaiting}
-use Rattle.laws.proofs.LawfulOperations.{look-unlisted, lawful-operate}
+use Rattle.laws.proofs.LawfulOperations.{lawful-operate}
+use Rattle.laws.proofs.Rows.{Rows, none, _&_, look-rows}
 use Rattle.laws.proofs.Calm.{never, and-false, not-turns, Calm, calm-none, any-fine, same-stop, Tells, tells-calm, tells-stop, regroup, tells-going, tells-read}
 use Rattle.laws.proofs.Steps.{insert-stops, delete-stops}
 
@@ -226,12 +226,7 @@ request-stops m hc {w} b =
 Row : ℕ → Place → Type 0
 Row code p = (m : List ℕ) (w : Work) → Begun w → Tells (p m w) (operate code m w)
 
-infixr 5 _&_
-data Rows : List (ℕ × Place) → Type 0 where
-  end : Rows []
-  _&_ : {code : ℕ} {p : Place} {t : List (ℕ × Place)} → Row code p → Rows t → Rows ((code, p) ∷ t)
-
-rows : Rows stopPlaces
+rows : Rows Row stopPlaces
 unfolding Row operate registerOperations otherOperations operations
 rows =
     (λ m w b. tin-stops m b) &
@@ -242,22 +237,12 @@ rows =
     (λ m w b. shl-stops m b) &
     (λ m w b. enbt-stops m b) &
     (λ m w b. taltwt-stops m b) &
-    end
-
-row-of : (t : List (ℕ × Place)) → Rows t → (code : ℕ) → listed code t ≡ true → Row code (look t code nowhere)
-row-of [] end code h = never h
-row-of ((k, p) ∷ t) (r & rs) code h = go (eqb code k) refl h (row-of t rs code)
-  where
-    go : (s : Bool) → eqb code k ≡ s → pick s true (listed code t) ≡ true → (listed code t ≡ true → Row code (look t code nowhere))
-        → Row code (pick s p (look t code nowhere))
-    go true e z f = subst (λ (c : ℕ). Row c p) (sym (eqb-true code k e)) r
-    go false e z f = f z
+    none
 
 -- every operation: one without a place Stops nowhere
 pub operate-stops : (code : ℕ) (m : List ℕ) {w : Work} → Begun w → Tells (look stopPlaces code nowhere m w) (operate code m w)
 unfolding canStop Row
 operate-stops code m {w} b =
-    by-bool (listed code stopPlaces)
-    (λ l. row-of stopPlaces rows code l m w b)
-    (λ l. rw (look-unlisted stopPlaces code nowhere l)
-    (tells-calm (kept (lawful-operate code (λ z. never (sym l ∙ z)) (λ z. not-turns stop unlisted (λ q. omega (arith, q)))) m (calm b))))
+    look-rows Row stopPlaces rows code nowhere
+    (λ l m w b. tells-calm (kept (lawful-operate code (λ z. never (sym l ∙ z)) (λ z. not-turns stop unlisted (λ q. omega (arith, q)))) m (calm b)))
+    m w b
