@@ -1,5 +1,5 @@
--- Work keeps its registers: there are 45 of them. And its answer, with the kind and address of its access, keeps a property that 10 has where 0 has
--- it: to be one of 01's numbers, say, or not to be 9. A refusal that comes first stays. What can Stop asks the same of 11, and so on.
+-- Fine work has 45 registers, and its answer, with the kind and address of its access, has a property P: to be one of 01's numbers, say, or not to be 9.
+-- P must turn from no refusal to 10, since any access may be outside. What refuses with another number asks the same of that number.
 use mathlib.Core.Path.{_≡_, subst, _∙_}
 use mathlib.Core.List.{List}
 use Prim.Native.Nat.{ℕ, _≤_}
@@ -12,7 +12,7 @@ use Rattle.rules.specs.declared.Core.{Core}
 use Rattle.rules.specs.declared.System.{System}
 use Rattle.rules.proofs.Tests.{yes-eq, no-eq, cases-eq, on-lt, on-eq}
 
--- where a property of an answer, the kind of its access and its address holds of no refusal, it holds of each refusal with this number
+-- P turns from no refusal to any refusal with this number
 abbrev pub Turns : (ℕ → ℕ → ℕ → Type 0) → ℕ → Type 0
 Turns P number = (k a : ℕ) → P 0 k a → (kind address : ℕ) → P number kind address
 

@@ -1,5 +1,5 @@
--- THE TWO LAWS of what is done to work. First: the registers stay 45, and a refusal that came first stays. Second: done in a memory, and in that memory with
--- words appended, the results are alike. This file proves both of the parts that all work is made of; each chapter follows by composing the parts.
+-- THE TWO LAWS of the definitions. First: work stays fine, so the registers stay 45 and the first refusal stays. Second: in a memory, and in that memory with
+-- words appended, the results are alike. This file proves both laws of put, refuse, load, store and move; each chapter composes these.
 use mathlib.Core.Path.{_≡_, refl, sym, subst, _∙_}
 use mathlib.Core.Bool.{Bool, true, false}
 use mathlib.Core.List.{List, _++_}
@@ -21,12 +21,12 @@ use Rattle.laws.proofs.Fine.{Fine, Turns, fine-put, fine-putCore, fine-
 use Rattle.laws.proofs.Calm.{any-fine, inside-same}
 use Rattle.laws.proofs.Appended.{word-appended, inside-snoc}
 
--- what is done from a work w, in any memory; A are the numbers, other than 10, that it may refuse with
+-- `Lawful A w f`: the definition that makes f mem of w, in the memory mem, keeps both laws. A are the numbers, other than 10, that it may refuse with
 pub record Lawful (A : ℕ → Type 0) (w : Work) (f : List ℕ → Work) : Type 1 where
   pub keeps : (P : ℕ → ℕ → ℕ → Type 0) → ((n : ℕ) → A n → Turns P n) → (mem : List ℕ) → Fine P w → Fine P (f mem)
   pub alike : (m x : List ℕ) → length m < 2 ^ 30 → Unrefused (length m) w → Alike (length m) (f m) (f (m ++ x))
 
--- done from any work
+-- keep both laws from any work
 abbrev pub Law : (ℕ → Type 0) → (List ℕ → Work → Work) → Type 1
 Law A h = (w : Work) → Lawful A w (λ mem. h mem w)
 
@@ -34,7 +34,7 @@ Law A h = (w : Work) → Lawful A w (λ mem. h mem w)
 pub kept : {P : ℕ → ℕ → ℕ → Type 0} {h : List ℕ → Work → Work} → Law (Turns P) h → (m : List ℕ) {w : Work} → Fine P w → Fine P (h m w)
 kept {P} l m {w} f = l w .keeps P (λ n t. t) m f
 
--- ---- a refusal that came first stays, with the kind and address of its access
+-- ---- the first refusal stays, with the kind and address of its access
 
 abbrev pub AnswerIs : ℕ → ℕ → ℕ → ℕ → ℕ → ℕ → Type 0
 AnswerIs n k a number kind address = (number ≡ n) × (kind ≡ k) × (address ≡ a)
@@ -103,7 +103,7 @@ module _ {A : ℕ → Type 0} where
 
   -- ---- registers
 
-  -- what leaves answer and stores alone, and keeps the count of registers
+  -- change registers alone
   on-registers : (g : Work → Work) → ((P : ℕ → ℕ → ℕ → Type 0) (w : Work) → Fine P w → Fine P (g w))
       → ((w : Work) → g w .answer ≡ w .answer) → ((w : Work) → g w .stored ≡ w .stored) → Law A (λ mem. g)
   on-registers g s e f w =
@@ -161,7 +161,7 @@ pub same-word : (m x : List ℕ) (a : ℕ) (w : Work) → Unrefused (length m) w
 unfolding wordAt
 same-word m x a w u h = word-appended m x (w .stored) (index a) (u .inside) h
 
--- store inside memory
+-- append a store that is inside memory
 alike-append : {size : ℕ} (s : Store) → StoreInside size s → (w : Work) → Unrefused size w → Alike size (append s w) (append s w)
 unfolding append
 alike-append {size} s i w u =
@@ -173,7 +173,7 @@ beyond-with kind a low high h f =
     beyond (f .known .0) (f .count) (record { least = rw (f .known .1) low; most = rw (f .known .1) high; away = rw (f .known .2) h })
 
 module _ {A : ℕ → Type 0} where
-  -- access a, then do g: compare g from the same work only where a is inside memory
+  -- access a, then do g: g needs the second law only where a is inside memory
   access-then : (kind a : ℕ) → kindFetch ≤ kind → kind ≤ kindStore → (w : Work) (g : List ℕ → Work → Work)
       → ((P : ℕ → ℕ → ℕ → Type 0) → ((n : ℕ) → A n → Turns P n) → (mem : List ℕ) (v : Work) → Fine P v → Fine P (g mem v))
       → ((m x : List ℕ) → length m < 2 ^ 30 → Unrefused (length m) w → index a < length m → Alike (length m) (g m w) (g (m ++ x) w))
@@ -230,7 +230,7 @@ module _ {A : ℕ → Type 0} where
 -- ---- moves
 
 module _ (m x : List ℕ) (small : length m < 2 ^ 30) where
-  -- what a move comes to: no access is outside, and all its bytes are inside; or its first access outside
+  -- a move has all its bytes inside memory, or has a first access outside
   data Moves (s d n : ℕ) : Type 0 where
     fits : moveOutside m s d n ≡ (0, 0) → moveOutside (m ++ x) s d n ≡ (0, 0) → (0 < n → offset s + n ≤ 4 * length m) → (0 < n → offset d + n ≤ 4 * length m) → Moves s d n
     leaves : kindFetch ≤ moveOutside m s d n .0 → moveOutside m s d n .0 ≤ kindStore → length m ≤ index (moveOutside m s d n .1) → Moves s d n

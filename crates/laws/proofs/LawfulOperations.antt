@@ -1,4 +1,4 @@
--- Every action of the tables is lawful, so what they look up is; only a code without a row is refused with 9.
+-- Every action of the tables is lawful, so every function and operation is; only a code without a row is refused with 9.
 use mathlib.Core.Path.{_≡_, refl}
 use mathlib.Core.Bool.{Bool, true, false, _&&_, _||_}
 use mathlib.Core.List.{List, [], _∷_}

@@ -1,4 +1,4 @@
--- Every definition of Timers.antt (timer queues) is lawful: a walk that comes to a ring in memory comes to that ring in a longer memory, whose budget is larger.
+-- Every definition of Timers.antt (timer queues) is lawful; a walk that Stops in a memory Stops in a longer memory, whose budget is larger.
 use mathlib.Core.Path.{_≡_, refl, sym, ap, _∙_}
 use mathlib.Core.Bool.{Bool, true, false}
 use mathlib.Core.List.{List, _++_}
@@ -22,7 +22,7 @@ use Rattle.laws.proofs.Lawful.{Law, kept, refused-with, longer, same-wo
 use Rattle.laws.proofs.LawfulScheduling.{lawful-run, lawful-wait}
 use Rattle.laws.proofs.LawfulTimerQueues.{lawful-setNext, lawful-insertWalk, lawful-deleteWalk}
 
--- ---- a walk whose budget is N + 2, for a memory of N words
+-- ---- a walk with a budget of N + 2 turns, in a memory of N words
 
 -- b is a, if a is not refused
 abbrev More : Work → Work → Type 0
@@ -45,9 +45,9 @@ abbrev Only : ℕ → ℕ → ℕ → Type 0
 Only n k a = (n ≡ 0 → ⊥) → (n ≡ outside → ⊥) → n ≡ stop
 
 module _ (walk : ℕ → List ℕ → Work → Work) (law : (A : ℕ → Type 0) → A stop → (turns : ℕ) → Law A (walk turns))
-    -- more turns change nothing but a refusal
+    -- more turns do the same, unless the walk is refused
     (more : (turns turns′ : ℕ) → turns ≤ turns′ → (mem : List ℕ) (w : Work) → More (walk turns mem w) (walk turns′ mem w))
-    -- a walk that is refused with Stop is so in a longer memory
+    -- a walk that Stops does so in a longer memory
     (ring : (m x : List ℕ) (w : Work) → Unrefused (length m) w → walk (length m + 2) m w .answer ≡ stop → walk (length (m ++ x) + 2) (m ++ x) w .answer ≡ stop) where
   lawful-budget : {A : ℕ → Type 0} → A stop → Law A (λ mem. walk (length mem + 2) mem)
   lawful-budget {A} s w =
