@@ -1,16 +1,17 @@
 -- Fine work has 45 registers, and its answer, with the kind and address of its access, has a property P: to be one of 01's numbers, say, or not to be 9.
 -- P must turn from no refusal to 10, since any access may be outside. What refuses with another number asks the same of that number.
-use mathlib.Core.Path.{_≡_, subst, _∙_}
+use mathlib.Core.Path.{_≡_, refl, sym, subst, _∙_}
 use mathlib.Core.List.{List}
 use Prim.Native.Nat.{ℕ, _≤_}
 use native.Mathlib.Omega.{arith}
 use lib.ListN.{length, length-set}
+use Rattle.rules.specs.Words.{index}
 use Rattle.rules.specs.Registers.{registers, withCore, withSystem}
 use Rattle.rules.specs.Memory.{Store}
 use Rattle.rules.specs.Work.{Work, begin, put, putCore, putSystem, outside, refuseAt, refuse, append, access, moveOrRefuse, transfer}
 use Rattle.rules.specs.declared.Core.{Core}
 use Rattle.rules.specs.declared.System.{System}
-use Rattle.rules.proofs.Tests.{yes-eq, no-eq, cases-eq, on-lt, on-eq}
+use Rattle.rules.proofs.Tests.{no-lt, yes-eq, no-eq, cases-eq, on-lt, on-eq}
 
 -- P turns from no refusal to any refusal with this number
 abbrev pub Turns : (ℕ → ℕ → ℕ → Type 0) → ℕ → Type 0
@@ -74,3 +75,24 @@ module _ {P : ℕ → ℕ → ℕ → Type 0} where
   pub fine-transfer : (m : List ℕ) (source destination n : ℕ) {w : Work} → Fine P w → Fine P (transfer m source destination n w)
   unfolding transfer moveOrRefuse
   fine-transfer m source destination n f = on-eq (Fine P) _ _ f (on-eq (Fine P) _ _ (fine-append _ f) (fine-refuseAt _ _ _ (f .ten) f))
+
+-- ---- the first refusal stays, with the kind and address of its access
+
+abbrev pub AnswerIs : ℕ → ℕ → ℕ → ℕ → ℕ → ℕ → Type 0
+AnswerIs n k a number kind address = (number ≡ n) × (kind ≡ k) × (address ≡ a)
+
+pub never-turns : (n k a : ℕ) → (n ≡ 0 → ⊥) → (number : ℕ) → Turns (AnswerIs n k a) number
+never-turns n k a h number k′ a′ z kind address = absurd (h (sym (z .0)))
+
+pub refused-with : (number kind a : ℕ) (w : Work) → w .answer ≡ 0
+    → refuseAt number kind a w ≡ record { regs = w .regs; stored = w .stored; answer = number; kind = kind; address = a }
+unfolding refuseAt
+refused-with number kind a w e = rw (yes-eq e)
+
+-- refuse an access outside memory
+pub fine-outside : (mem : List ℕ) (kind a : ℕ) (w : Work) → length (w .regs) ≡ registers → w .answer ≡ 0 → length mem ≤ index a
+    → Fine (AnswerIs outside kind a) (access mem kind a w)
+unfolding access
+fine-outside mem kind a w c e h =
+    rw (no-lt h, refused-with outside kind a w e)
+    (record { count = c; known = (refl, refl, refl); ten = never-turns outside kind a (λ z. omega (arith, z)) outside })

@@ -11,13 +11,13 @@ use Rattle.rules.specs.Tests.{pick, ifLt, ifLe, ifEq}
 use Rattle.rules.specs.Words.{index, offset, selector, atByte, atWord, byteOf, withByte}
 use Rattle.rules.specs.Registers.{registers}
 use Rattle.rules.specs.Memory.{Store, word, bytes}
-use Rattle.rules.specs.Work.{Work, put, raise, lower, gotoSNP, putCore, putSystem, putBoth, outside, stop, kindFetch, kindLoad, kindStore, refuseAt, refuse, append, attempted, wordAt, byteAt, access, fetchByte, readWord, storeWord, storeByte, rIndexWord, rIndexByte, wIndexWord, moveOutside, moveOrRefuse, transfer}
+use Rattle.rules.specs.Work.{Work, put, raise, lower, gotoSNP, putCore, putSystem, putBoth, outside, stop, kindFetch, kindLoad, kindStore, refuse, append, attempted, wordAt, byteAt, access, fetchByte, readWord, storeWord, storeByte, rIndexWord, rIndexByte, wIndexWord, moveOutside, moveOrRefuse, transfer}
 use Rattle.rules.specs.declared.Core.{Core}
 use Rattle.rules.specs.declared.Attempt.{Attempt}
 use Rattle.rules.specs.declared.Both.{Both}
 use Rattle.rules.proofs.Tests.{yes-lt, no-lt, yes-eq, no-eq, cases-lt, cases-eq}
 use Rattle.laws.specs.Alike.{StoreInside, Unrefused, Alike, beyond, refused, same}
-use Rattle.laws.proofs.Fine.{Fine, Turns, fine-put, fine-putCore, fine-putSystem, fine-refuse, fine-append, fine-access, fine-transfer}
+use Rattle.laws.proofs.Fine.{Fine, Turns, AnswerIs, never-turns, refused-with, fine-outside, fine-put, fine-putCore, fine-putSystem, fine-refuse, fine-append, fine-access, fine-transfer}
 use Rattle.laws.proofs.Calm.{any-fine, inside-same}
 use Rattle.laws.proofs.Appended.{word-appended, inside-snoc}
 
@@ -33,27 +33,6 @@ Law A h = (w : Work) → Lawful A w (λ mem. h mem w)
 -- apply the first law to one property of the answer
 pub kept : {P : ℕ → ℕ → ℕ → Type 0} {h : List ℕ → Work → Work} → Law (Turns P) h → (m : List ℕ) {w : Work} → Fine P w → Fine P (h m w)
 kept {P} l m {w} f = l w .keeps P (λ n t. t) m f
-
--- ---- the first refusal stays, with the kind and address of its access
-
-abbrev pub AnswerIs : ℕ → ℕ → ℕ → ℕ → ℕ → ℕ → Type 0
-AnswerIs n k a number kind address = (number ≡ n) × (kind ≡ k) × (address ≡ a)
-
-pub never-turns : (n k a : ℕ) → (n ≡ 0 → ⊥) → (number : ℕ) → Turns (AnswerIs n k a) number
-never-turns n k a h number k′ a′ z kind address = absurd (h (sym (z .0)))
-
-pub refused-with : (number kind a : ℕ) (w : Work) → w .answer ≡ 0
-    → refuseAt number kind a w ≡ record { regs = w .regs; stored = w .stored; answer = number; kind = kind; address = a }
-unfolding refuseAt
-refused-with number kind a w e = rw (yes-eq e)
-
--- refuse an access outside memory
-pub fine-outside : (mem : List ℕ) (kind a : ℕ) (w : Work) → length (w .regs) ≡ registers → w .answer ≡ 0 → length mem ≤ index a
-    → Fine (AnswerIs outside kind a) (access mem kind a w)
-unfolding access
-fine-outside mem kind a w c e h =
-    rw (no-lt h, refused-with outside kind a w e)
-    (record { count = c; known = (refl, refl, refl); ten = never-turns outside kind a (λ z. omega (arith, z)) outside })
 
 module _ {A : ℕ → Type 0} where
   -- ---- one after the other

@@ -1,6 +1,5 @@
--- Every definition of Step.antt (one step) is lawful. So
--- THE LONGER MEMORY: a step in a memory, and the same step in that memory with words appended. Where the first answers 10, an access was outside; else the
--- second answers the same number, and where that is 0, its registers and stores are the same. So nothing of what lies behind memory comes into the result.
+-- Every definition of Step.antt (one step) is lawful. So THE LONGER MEMORY: of a step in a memory, and in that memory with words appended, the first answers
+-- 10 for an access outside, or both answer the same number, and where that is 0, their registers and stores are the same.
 use mathlib.Core.Path.{_≡_, refl}
 use mathlib.Core.List.{List, _++_}
 use Prim.Native.Nat.{ℕ, _/_, _^_, _≤_, _<_}
@@ -12,8 +11,8 @@ use Rattle.rules.specs.Work.{begin, reg, kindFetch, outside, halted, idle, stop
 use Rattle.rules.specs.Timers.{timerReady}
 use Rattle.rules.specs.Step.{haltIfAsked, haltOnError, fetched, execute, decode, instruction, instructionUnlessIdle, timersFirst, channelsFirst, choose, step}
 use Rattle.laws.specs.Alike.{Alike}
-use Rattle.laws.proofs.Fine.{Fine, Turns}
-use Rattle.laws.proofs.Lawful.{Law, kept, AnswerIs, never-turns, fine-outside, _then_, unchanged, lawful-eq, lawful-fetch, lawful-lt, lawful-pick, lawful-put, lawful-putCore, lawful-raise, lawful-refuse}
+use Rattle.laws.proofs.Fine.{Fine, Turns, AnswerIs, never-turns, fine-outside}
+use Rattle.laws.proofs.Lawful.{Law, kept, _then_, unchanged, lawful-eq, lawful-fetch, lawful-lt, lawful-pick, lawful-put, lawful-putCore, lawful-raise, lawful-refuse}
 use Rattle.laws.proofs.LawfulScheduling.{lawful-actOnSNP}
 use Rattle.laws.proofs.LawfulTimers.{lawful-handleTimerRequest}
 use Rattle.laws.proofs.LawfulChannels.{lawful-handleChannelRequest}

@@ -16,9 +16,10 @@ use Rattle.rules.specs.Timers.{nextTime, dropB, timedOut, timerStatus, timerWak
 use Rattle.rules.proofs.Tests.{no-eq, cases-eq}
 use Rattle.laws.specs.Alike.{Unrefused, Alike, beyond, refused, same}
 use Rattle.laws.specs.Ring.{insertEnds, deleteEnds}
+use Rattle.laws.proofs.Fine.{refused-with}
 use Rattle.laws.proofs.Calm.{any-fine}
 use Rattle.laws.proofs.TimerRings.{walk-longer, insert-goes, insert-walk, delete-goes, delete-walk}
-use Rattle.laws.proofs.Lawful.{Law, kept, refused-with, longer, same-word, _then_, unchanged, lawful-eq, lawful-lower, lawful-pick, lawful-put, lawful-read, lawful-rIndexWord, lawful-stop, lawful-wIndexWord}
+use Rattle.laws.proofs.Lawful.{Law, kept, longer, same-word, _then_, unchanged, lawful-eq, lawful-lower, lawful-pick, lawful-put, lawful-read, lawful-rIndexWord, lawful-stop, lawful-wIndexWord}
 use Rattle.laws.proofs.LawfulScheduling.{lawful-run, lawful-wait}
 use Rattle.laws.proofs.LawfulTimerQueues.{lawful-setNext, lawful-insertWalk, lawful-deleteWalk}
 

@@ -42,7 +42,7 @@ module _ {m : List ℕ} {w : Work} {ends : ℕ → Bool} {walk : ℕ → ℕ →
       let b = budget-round (nextPointer m w) ends turns (wordAt m previous w) e in
       ap (λ (v : Work). v .answer) (k .on turns previous h (b .0)) ∙ walk-round turns (atWord (wordAt m previous w) tlinkS) (k .link-inside _ (b .0)) (b .1)
 
-  -- where it ends, a walk of one turn more is not
+  -- where the walk ends within the budget, a walk of one turn more is not
   walk-end : (turns previous q : ℕ) → index previous < length m → budget (nextPointer m w) ends turns (wordAt m previous w) ≡ end q → Calm (walk (suc turns) previous)
   walk-end zero previous q h e = absurd (no-end (nextPointer m w) ends (wordAt m previous w) q e)
   walk-end (suc turns) previous q h e =
@@ -104,7 +104,7 @@ module _ (m : List ℕ) (time : ℕ) (w : Work) (count : length (w .regs) ≡ re
   unfolding insertWalk
   insert-turn turns previous h = rw (inside-same m 2 previous w h)
 
-  -- one whose own pointer is outside
+  -- a turn whose own pointer is outside
   insert-outside : (turns previous : ℕ) → length m ≤ index previous → Calm (insertWalk m (suc turns) time previous w)
   unfolding insertWalk
   insert-outside turns previous h =
@@ -130,7 +130,7 @@ module _ (m : List ℕ) (time : ℕ) (w : Work) (count : length (w .regs) ≡ re
       go false ea false eb false ec z = absurd (let q : _≡_ {A = ℕ} 0 1 = cc in omega arith)
       go false ea false eb true ec z = (eqb-false p notProcess ea, leb-false _ _ eb, ec, leb-false _ _ z)
 
-  -- where it ends at p, it is not refused with Stop
+  -- a walk that ends at p is not refused with Stop
   insert-stays : (turns previous : ℕ) → index previous < length m → insertEnds m w time (wordAt m previous w) ≡ true
       → Calm (insertWalk m (suc (suc turns)) time previous w)
   unfolding insertEnds
@@ -205,7 +205,7 @@ module _ (m : List ℕ) (w : Work) (count : length (w .regs) ≡ registers) (non
   unfolding deleteWalk
   delete-turn turns previous h = rw (inside-same m 2 previous w h)
 
-  -- one whose own pointer is outside
+  -- a turn whose own pointer is outside
   delete-outside : (turns previous : ℕ) → length m ≤ index previous → Calm (deleteWalk m (suc turns) previous w)
   unfolding deleteWalk
   delete-outside turns previous h =
@@ -222,7 +222,7 @@ module _ (m : List ℕ) (w : Work) (count : length (w .regs) ≡ registers) (non
       go true ea z = absurd (let q : _≡_ {A = ℕ} 0 1 = cc in omega arith)
       go false ea z = (eqb-false p (wptr w) ea, leb-false _ _ z)
 
-  -- where it ends at p, it is not refused with Stop
+  -- a walk that ends at p is not refused with Stop
   delete-stays : (turns previous : ℕ) → index previous < length m → deleteEnds m w (wordAt m previous w) ≡ true
       → Calm (deleteWalk m (suc (suc turns)) previous w)
   unfolding deleteEnds
