@@ -63,7 +63,7 @@ module _ (m : Machine) (h : length (m .regs) ≡ registers) where
   pub take-demands : (channel : ℕ) → TotalAndExact (TakeContract channel m) (takeNumbers channel m) (oneMore (take channel) m) m
   take-demands channel = record { total = take-total m h channel; refuses-cleanly = take-refused m channel; one-answer = take-unique m channel; answers-exactly = take-exactly m channel; counted = take-counted m channel }
 
-  pub give-demands : (channel byte : ℕ) → TotalAndExact (GiveContract channel byte m) (giveNumbers channel byte m) (oneMore (give channel byte) m) m
+  pub give-demands : (channel byte : ℕ) → TotalAndExact (GiveContract channel byte m) (giveNumbers channel m) (oneMore (give channel byte) m) m
   give-demands channel byte = record { total = give-total m h channel byte; refuses-cleanly = give-refused m channel byte; one-answer = give-unique m channel byte; answers-exactly = give-exactly m channel byte; counted = give-counted m channel byte }
 
   pub event-demands : TotalAndExact (EventContract m) (eventNumbers m) (oneMore event m) m

@@ -2,15 +2,16 @@
 use mathlib.Core.Path.{_≡_, refl, sym, _∙_}
 use mathlib.Core.Bool.{Bool, true, false, _&&_, _||_}
 use mathlib.Core.List.{List, [], _∷_}
-use Prim.Native.Nat.{ℕ, zero, suc, _≤_, _<_}
+use Prim.Native.Nat.{ℕ, _≤_, _<_}
 use native.Mathlib.Omega.{arith}
 use borrow.Author.Tests.{lt-leb, ne-eqb, ltb-true}
 use lib.Dec.{ltb, leb, eqb}
 use Rattle.rules.specs.Tests.{pick}
 use Rattle.rules.specs.Operations.{Action, registerOperations, otherOperations, operations}
-use Rattle.rules.proofs.Tests.{cases-eq, cases-lt}
+use Rattle.rules.proofs.Tests.{cases-lt}
 use Rattle.laws.specs.Lists.{listed}
 use Rattle.laws.proofs.Calm.{never, and-false}
+use Rattle.laws.proofs.LawfulOperations.{allBelow, all-below}
 use Rattle.refusals.specs.Conditions.{isBuilt}
 
 -- ---- below #5A: by computation
@@ -20,10 +21,6 @@ same true b = b
 same false true = false
 same false false = true
 
-agree : ℕ → Bool
-agree zero = true
-agree (suc n) = pick (same (isBuilt n) (listed n operations)) (agree n) false
-
 is-same : (a b : Bool) → same a b ≡ true → a ≡ b
 unfolding same
 is-same true true h = refl
@@ -31,15 +28,9 @@ is-same true false h = never h
 is-same false true h = never h
 is-same false false h = refl
 
-agree-below : (n : ℕ) → agree n ≡ true → (k : ℕ) → k < n → isBuilt k ≡ listed k operations
-unfolding agree
-agree-below zero h k l = absurd (omega arith)
-agree-below (suc n) h k l = go (same (isBuilt n) (listed n operations)) refl h (agree-below n)
-  where
-    go : (t : Bool) → same (isBuilt n) (listed n operations) ≡ t → pick t (agree n) false ≡ true → (agree n ≡ true → (k : ℕ) → k < n → isBuilt k ≡ listed k operations)
-        → isBuilt k ≡ listed k operations
-    go true s q f = cases-eq k n (λ e. rw e (is-same _ _ s)) (λ e. f q k (omega arith))
-    go false s q f = never q
+built-below : (k : ℕ) → k < 0x5A → isBuilt k ≡ listed k operations
+unfolding allBelow registerOperations otherOperations operations isBuilt same
+built-below k h = is-same _ _ (all-below 0x5A (λ k. same (isBuilt k) (listed k operations)) refl k h)
 
 -- ---- from #5A on: neither
 
@@ -47,10 +38,10 @@ bounded : List (ℕ × Action) → Bool
 bounded [] = true
 bounded (e ∷ t) = pick (ltb (e .0) 0x5A) (bounded t) false
 
-above : (t : List (ℕ × Action)) → bounded t ≡ true → (k : ℕ) → 0x5A ≤ k → listed k t ≡ false
+unlisted-above : (t : List (ℕ × Action)) → bounded t ≡ true → (k : ℕ) → 0x5A ≤ k → listed k t ≡ false
 unfolding bounded
-above [] h k l = refl
-above (e ∷ t) h k l = go (ltb (e .0) 0x5A) refl h (above t)
+unlisted-above [] h k l = refl
+unlisted-above (e ∷ t) h k l = go (ltb (e .0) 0x5A) refl h (unlisted-above t)
   where
     go : (b : Bool) → ltb (e .0) 0x5A ≡ b → pick b (bounded t) false ≡ true → (bounded t ≡ true → (k : ℕ) → 0x5A ≤ k → listed k t ≡ false)
         → pick (eqb k (e .0)) true (listed k t) ≡ false
@@ -70,5 +61,5 @@ built-above k l =
     none-of _ _ _ _ _ (lt-leb k _ (omega arith)) (past _ _ k (omega arith)) (past _ _ k (omega arith)) (past _ _ k (omega arith)) (past _ _ k (omega arith))
 
 pub built-listed : (k : ℕ) → isBuilt k ≡ listed k operations
-unfolding agree bounded registerOperations otherOperations operations isBuilt same
-built-listed k = cases-lt k 0x5A (λ h. agree-below 0x5A refl k h) (λ h. built-above k h ∙ sym (above operations refl k h))
+unfolding bounded registerOperations otherOperations operations
+built-listed k = cases-lt k 0x5A (λ h. built-below k h) (λ h. built-above k h ∙ sym (unlisted-above operations refl k h))

@@ -2,7 +2,7 @@
 use mathlib.Core.Path.{_≡_, refl, sym, ap, _∙_}
 use mathlib.Core.Bool.{Bool, true, false, _&&_, _||_, not}
 use mathlib.Core.List.{List, [], _∷_, _++_}
-use Prim.Native.Nat.{ℕ, _+_, _<_}
+use Prim.Native.Nat.{ℕ, _<_}
 use native.Mathlib.Omega.{arith}
 use lib.Dec.{ltb, leb, eqb}
 use lib.Bits.{bitAnd}
@@ -190,7 +190,7 @@ module _ (m : Machine) (mem j : List ℕ) where
       (commit-or-refuse-answer m mem j _ (links.take mem c (begin (m .regs))) ((8, takeNotReady c (m .regs)) ∷ (10, pointerOutside c (m .regs) mem) ∷ []) 0
       (λ t. omega arith, (λ t. omega arith, tt)) (take-own c (m .regs) mem) (λ z. no-pairs _ _ (take-stored mem c (m .regs))))
 
-  pub give-exactly : (c byte : ℕ) → rules.give c byte m mem j .answer ≡ firstOf (giveNumbers c byte m mem j)
+  pub give-exactly : (c byte : ℕ) → rules.give c byte m mem j .answer ≡ firstOf (giveNumbers c m mem j)
   unfolding rules.give
   give-exactly c byte =
       checked-answer (rules.notInput c) m mem j _ _
@@ -238,6 +238,10 @@ halt-answer : (st : ℕ) (w : Work) → steps.haltOnError st w .answer ≡ w .an
 unfolding steps.haltOnError steps.haltIfAsked raise put same-answer
 halt-answer st w = on-eq (same-answer (w .answer)) _ _ (on-eq (same-answer (w .answer)) _ _ refl (on-eq (same-answer (w .answer)) _ _ refl refl)) refl
 
+-- a step's own numbers with their conditions, before 12
+abbrev pub ownNumbers : List ℕ → List ℕ → List (ℕ × Bool)
+ownNumbers r mem = (6, isHalted r) ∷ (7, isIdle r) ∷ (9, isUnlisted r mem) ∷ (10, stepOutside r mem) ∷ (11, stops r mem) ∷ []
+
 module _ (r mem : List ℕ) where
   idle-answer : (bitAnd (getD r flagsReg 0) idleFlag ≡ 0 → ⊥) → steps.instructionUnlessIdle mem (begin r) .answer ≡ 7
   unfolding steps.instructionUnlessIdle
@@ -256,8 +260,7 @@ module _ (r mem : List ℕ) where
       (λ o. rw (yes-eq o, unasked-answer (not-true (asked r) (rw (no-eq i, yes-eq o) at h))) (idle-answer i))
       (λ o. rw (no-eq o) (idle-answer i)))
 
-  step-own : length r ≡ registers → steps.step mem (begin r) .answer
-      ≡ firstOf ((6, isHalted r) ∷ (7, isIdle r) ∷ (9, isUnlisted r mem) ∷ (10, stepOutside r mem) ∷ (11, stops r mem) ∷ [])
+  pub step-own : length r ≡ registers → steps.step mem (begin r) .answer ≡ firstOf (ownNumbers r mem)
   unfolding steps.step firstOf
   step-own k =
       cases-eq (bitAnd (getD r flagsReg 0) haltedFlag) 0
@@ -269,15 +272,6 @@ module _ (r mem : List ℕ) where
 pub step-exactly : (m : Machine) (mem j : List ℕ) → length (m .regs) ≡ registers → rules.step m mem j .answer ≡ firstOf (stepNumbers m mem j)
 unfolding rules.step firstOf
 step-exactly m mem j h =
-    checked-answer false m mem j (rules.commitOrRefuse m mem j 0 (steps.step mem (begin (m .regs)))) (own ++ ((12, full (stepPairs (m .regs) mem) m j) ∷ []))
-    (commit-or-refuse-answer m mem j 0 (steps.step mem (begin (m .regs))) own (stepPairs (m .regs) mem)
+    checked-answer false m mem j (rules.commitOrRefuse m mem j 0 (steps.step mem (begin (m .regs)))) (ownNumbers (m .regs) mem ++ ((12, full (stepPairs (m .regs) mem) m j) ∷ []))
+    (commit-or-refuse-answer m mem j 0 (steps.step mem (begin (m .regs))) (ownNumbers (m .regs) mem) (stepPairs (m .regs) mem)
     (λ t. omega arith, (λ t. omega arith, (λ t. omega arith, (λ t. omega arith, (λ t. omega arith, tt))))) (step-own (m .regs) mem h) (λ z. refl))
-  where
-    own : List (ℕ × Bool)
-    own =
-        (6, isHalted (m .regs))
-        ∷ (7, isIdle (m .regs))
-        ∷ (9, isUnlisted (m .regs) mem)
-        ∷ (10, stepOutside (m .regs) mem)
-        ∷ (11, stops (m .regs) mem)
-        ∷ []

@@ -193,8 +193,8 @@ takeNumbers c m mem j =
     ∷ []
 
 -- give: 1, 3, 4, 8, 10, 12 (01, Answers by number; DECISIONS 32)
-abbrev pub giveNumbers : ℕ → ℕ → Machine → List ℕ → List ℕ → List (ℕ × Bool)
-giveNumbers c byte m mem j =
+abbrev pub giveNumbers : ℕ → Machine → List ℕ → List ℕ → List (ℕ × Bool)
+giveNumbers c m mem j =
     (1, sizeBad mem j)
     ∷ (3, notInput c)
     ∷ (4, frame m j)
