@@ -1,13 +1,13 @@
 use Prim.Native.Nat.{_-_}
-use Rattle.journal_record.proofs.Frame.{frame-long, frame-deep}
+use Rattle.journal_record.proofs.JournalBounds.{bounds-long, bounds-deep}
 use Rattle.journal_record.proofs.bounds.bounds_bad.Statement.{statement}
 use Rattle.journal_record.proofs.bounds.bounds_bad.Tie as tie
 
 returns : tie.Need-returns
-returns c = frame-long _ _ _ (c .if1 .taken)
+returns c = bounds-long _ _ _ (c .if1 .taken)
 
 returns-2 : tie.Need-returns-2
-returns-2 c = frame-deep _ _ _ (c .if1 .left)
+returns-2 c = bounds-deep _ _ _ (c .if1 .left)
 
 pub bounds-bad-spec : {M : Type 1} → statement M
 bounds-bad-spec = tie.close (tie.spec returns returns-2)
