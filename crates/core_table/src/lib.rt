@@ -1,4 +1,5 @@
-// The table of operations on registers alone (000 1.11, Operations): code and function on Core. The engine and the common step share it.
+// The table of operations on registers alone (000 1.11; rules/specs/Operations.antt, registerOperations): code and function on Core.
+// step_dispatch and step_fast share it.
 use core_arith::long;
 use core_arith::long_sums;
 use core_arith::partword;
@@ -11,7 +12,7 @@ ghost use mathlib.Core.Path.{_≡_};
 ghost use Rattle.rules.specs.Core.{core};
 ghost use Rattle.core_table.specs.Selected as selected;
 
-// The registers after an operation, or that the table has none.
+// The registers after an operation; found tells whether the table has the code.
 pub struct Selected {
     pub found: bool,
     pub core: Core,

@@ -26,7 +26,7 @@ pub fn commit(m: Machine, p: Plan, byte: u8, mem: &mut [u32], journal: &mut [u32
 {
     let used = m.used;
     let depth = m.depth;
-    let o = touched::list_words(p, mem.len());
+    let o = touched::outline_of(p, mem.len());
     let count = o.count;
     if bounds::is_full(journal.len(), used, count) {
         return bounds::refusal(m, Answer::JournalFull);

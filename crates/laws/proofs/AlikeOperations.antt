@@ -8,7 +8,7 @@ use Rattle.rules.specs.Tests.{pick}
 use Rattle.rules.specs.Stack as stack
 use Rattle.rules.specs.Registers.{oreg}
 use Rattle.rules.specs.Work.{Work, reg, stop, unlisted}
-use Rattle.rules.specs.Operations.{Action, pure, pureOrStop, pureBoth, loadTimer, operations, unlistedAction, operate, opr, function}
+use Rattle.rules.specs.Operations.{Action, pure, pureOrStop, pureBoth, loadTimer, otherOperations, operations, unlistedAction, operate, opr, function}
 use Rattle.rules.specs.declared.Core.{Core}
 use Rattle.rules.specs.declared.System.{System}
 use Rattle.rules.specs.declared.Attempt.{Attempt}
@@ -16,7 +16,7 @@ use Rattle.rules.specs.declared.Both.{Both}
 use Rattle.rules.proofs.Tests.{on-pick}
 use Rattle.laws.specs.Alike.{Alike}
 use Rattle.laws.proofs.Fine.{fine-putCore, fine-attempted, fine-putBoth}
-use Rattle.laws.proofs.FineOperations.{direct, function-is, Rows, none, _&_, look-rows, Free, fine-operate}
+use Rattle.laws.proofs.FineOperations.{direct, function-is, Rows, none, _&_, look-rows, all-operations, Free, fine-operate}
 use Rattle.laws.proofs.Alike.{self, lift, alike-putCore, alike-putBoth, alike-attempted, alike-refuse}
 use Rattle.laws.proofs.AlikeScheduling.{alike-endp, alike-startp, alike-stopp, alike-lend, alike-runp, alike-stoperr, alike-j}
 use Rattle.laws.proofs.AlikeData.{alike-lb, alike-ret, alike-sb, alike-savel, alike-saveh, alike-altend, alike-blockMove, alike-ldnl, alike-ldl, alike-call, alike-stl, alike-stnl}
@@ -50,90 +50,48 @@ module _ (m x : List ℕ) (small : length m < 2 ^ 30) where
   unfolding Longer
   alike-unlisted w w′ r = alike-refuse unlisted (λ e. omega (arith, e)) (λ e. omega (arith, e)) r
 
-  all-operations : Rows Longer Free operations
-  unfolding Longer operations
-  all-operations =
-      (λ s. alike-pure stack.rev) &
+  others : Rows Longer Free otherOperations
+  unfolding Longer otherOperations
+  others =
       (λ s w w′ r. alike-lb m x small r) &
-      (λ s. alike-pure stack.bsub) &
       (λ s w w′ r. alike-endp m x small r) &
-      (λ s. alike-pure stack.diff) &
-      (λ s. alike-pure stack.add) &
-      (λ s. alike-pure stack.gcall) &
       (λ s w w′ r. alike-input m x small r) &
-      (λ s. alike-pure stack.prod) &
-      (λ s. alike-pure stack.gt) &
-      (λ s. alike-pure stack.wsub) &
       (λ s w w′ r. alike-output m x small r) &
-      (λ s. alike-pure stack.sub) &
       (λ s w w′ r. alike-startp m x small r) &
       (λ s w w′ r. alike-outbyte m x small r) &
       (λ s w w′ r. alike-outword m x small r) &
-      (λ s. alike-pure stack.seterr) &
       (λ s w w′ r. alike-resetch m x small r) &
-      (λ s. alike-pure stack.csub0) &
       (λ s w w′ r. alike-stopp m x small r) &
-      (λ s. alike-pure stack.ladd) &
       (λ s. alike-two stack.stlb) &
       (λ s. alike-two stack.sthf) &
-      (λ s. alike-pure stack.norm) &
-      (λ s. alike-pure stack.ldiv) &
-      (λ s. alike-pure stack.ldpi) &
       (λ s. alike-two stack.stlf) &
-      (λ s. alike-pure stack.xdbl) &
-      (λ s. alike-pure stack.ldpri) &
-      (λ s. alike-pure stack.rem) &
       (λ s w w′ r. alike-ret m x small r) &
       (λ s w w′ r. alike-lend m x small r) &
       (λ s. alike-timer) &
-      (λ s. alike-pure stack.testerr) &
-      (λ s. alike-pure stack.testpranal) &
       (λ s w w′ r. alike-tin m x small r) &
-      (λ s. alike-pure stack.div) &
       (λ s w w′ r. alike-dist m x small r) &
       (λ s w w′ r. alike-disc m x small r) &
       (λ s w w′ r. alike-diss m x small r) &
-      (λ s. alike-pure stack.lmul) &
-      (λ s. alike-pure stack.bitnot) &
-      (λ s. alike-pure stack.xor) &
-      (λ s. alike-pure stack.bcnt) &
       (λ s. alike-attempt stack.lshr) &
       (λ s. alike-attempt stack.lshl) &
-      (λ s. alike-pure stack.lsum) &
-      (λ s. alike-pure stack.lsub) &
       (λ s w w′ r. alike-runp m x small r) &
-      (λ s. alike-pure stack.xword) &
       (λ s w w′ r. alike-sb m x small r) &
-      (λ s. alike-pure stack.gajw) &
       (λ s w w′ r. alike-savel m x small r) &
       (λ s w w′ r. alike-saveh m x small r) &
-      (λ s. alike-pure stack.wcnt) &
       (λ s. alike-attempt stack.shr) &
       (λ s. alike-attempt stack.shl) &
-      (λ s. alike-pure stack.mint) &
       (λ s w w′ r. alike-alt m x small r) &
       (λ s w w′ r. alike-altwt m x small r) &
       (λ s w w′ r. alike-altend m x small r) &
-      (λ s. alike-pure stack.and) &
       (λ s w w′ r. alike-enbt m x small r) &
       (λ s w w′ r. alike-enbc m x small r) &
       (λ s w w′ r. alike-enbs m x small r) &
       (λ s w w′ r. alike-blockMove m x small r) &
-      (λ s. alike-pure stack.or) &
-      (λ s. alike-pure stack.csngl) &
-      (λ s. alike-pure stack.ccnt1) &
       (λ s w w′ r. alike-talt m x small r) &
-      (λ s. alike-pure stack.ldiff) &
       (λ s. alike-two stack.sthb) &
       (λ s w w′ r. alike-taltwt m x small r) &
-      (λ s. alike-pure stack.sum) &
-      (λ s. alike-pure stack.mul) &
       (λ s. alike-two stack.sttimer) &
       (λ s w w′ r. alike-stoperr m x small r) &
-      (λ s. alike-pure stack.cword) &
-      (λ s. alike-pure stack.clrhalterr) &
-      (λ s. alike-pure stack.sethalterr) &
-      (λ s. alike-pure stack.testhalterr) &
       none
 
   all-direct : Rows Longer Free direct
@@ -156,7 +114,7 @@ module _ (m x : List ℕ) (small : length m < 2 ^ 30) where
 
   pub alike-operate : (code : ℕ) → Longer (operate code)
   unfolding operate
-  alike-operate code = look-rows Longer Free operations code unlistedAction all-operations tt (λ z. alike-unlisted)
+  alike-operate code = look-rows Longer Free operations code unlistedAction (all-operations alike-pure others) tt (λ z. alike-unlisted)
 
   alike-opr : Longer opr
   unfolding Longer

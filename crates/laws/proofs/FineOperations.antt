@@ -1,7 +1,7 @@
 -- Every action of the tables keeps work fine, so what they look up does; only a code without a row is refused with 9.
 use mathlib.Core.Path.{_≡_, refl, sym, ap, subst, _∙_}
 use mathlib.Core.Bool.{Bool, true, false}
-use mathlib.Core.List.{List, [], _∷_}
+use mathlib.Core.List.{List, [], _∷_, _++_}
 use Prim.Native.Nat.{ℕ, suc, _≤_, _<_}
 use native.Mathlib.Omega.{arith}
 use Rattle.rules.specs.Tests.{pick, look}
@@ -11,7 +11,7 @@ use Rattle.rules.specs.Scheduling as scheduling
 use Rattle.rules.specs.Data as loads
 use Rattle.rules.specs.Registers.{oreg}
 use Rattle.rules.specs.Work.{Work, reg, stop, unlisted, refuse}
-use Rattle.rules.specs.Operations.{Action, pure, pureOrStop, pureBoth, loadTimer, operations, functions, unlistedAction, operate, opr, function}
+use Rattle.rules.specs.Operations.{Action, pure, pureOrStop, pureBoth, loadTimer, registerOperations, otherOperations, onRegisters, operations, functions, unlistedAction, operate, opr, function}
 use Rattle.rules.specs.declared.Core.{Core}
 use Rattle.rules.specs.declared.System.{System}
 use Rattle.rules.specs.declared.Attempt.{Attempt}
@@ -102,6 +102,20 @@ look-rows K Q ((n, a) ∷ t) k d (p & q) asked h = go (eqb k n) refl h (look-row
     go true e z f = p (subst Q (eqb-true k n e) asked)
     go false e z f = f z
 
+-- a table of operations on registers alone has the property where each such operation has it
+rows-registers : {K : Action → Type 0} {Q : ℕ → Type 0} (t : List (ℕ × (Core → Core))) → ((g : Core → Core) → K (pure g)) → Rows K Q (onRegisters t)
+rows-registers [] h = none
+rows-registers (e ∷ t) h = (λ s. h (e .1)) & rows-registers t h
+
+rows-append : {K : Action → Type 0} {Q : ℕ → Type 0} {s t : List (ℕ × Action)} → Rows K Q s → Rows K Q t → Rows K Q (s ++ t)
+rows-append none q = q
+rows-append (p & r) q = p & rows-append r q
+
+-- the built operations have it where each operation on registers alone and each row of the other table has it
+pub all-operations : {K : Action → Type 0} {Q : ℕ → Type 0} → ((g : Core → Core) → K (pure g)) → Rows K Q otherOperations → Rows K Q operations
+unfolding operations
+all-operations h q = rows-append (rows-registers registerOperations h) q
+
 -- no row asks for anything
 abbrev pub Free : ℕ → Type 0
 Free k = Unit {0}
@@ -137,90 +151,48 @@ module _ (P : ℕ → ℕ → ℕ → Type 0) where
   allowed : (k : ℕ) → canStop k ≡ true → MayStop k → Turns P stop
   allowed k e s = s e
 
-  all-operations : Rows (Keeps P) MayStop operations
-  unfolding Keeps operations canStop
-  all-operations =
-      (λ s. keeps-pure stack.rev) &
+  others : Rows (Keeps P) MayStop otherOperations
+  unfolding Keeps otherOperations canStop
+  others =
       (λ s m w f. fine-lb m f) &
-      (λ s. keeps-pure stack.bsub) &
       (λ s m w f. fine-endp m f) &
-      (λ s. keeps-pure stack.diff) &
-      (λ s. keeps-pure stack.add) &
-      (λ s. keeps-pure stack.gcall) &
       (λ s m w f. fine-input m f) &
-      (λ s. keeps-pure stack.prod) &
-      (λ s. keeps-pure stack.gt) &
-      (λ s. keeps-pure stack.wsub) &
       (λ s m w f. fine-output m f) &
-      (λ s. keeps-pure stack.sub) &
       (λ s m w f. fine-startp m f) &
       (λ s m w f. fine-outbyte m f) &
       (λ s m w f. fine-outword m f) &
-      (λ s. keeps-pure stack.seterr) &
       (λ s m w f. fine-resetch m f) &
-      (λ s. keeps-pure stack.csub0) &
       (λ s m w f. fine-stopp m f) &
-      (λ s. keeps-pure stack.ladd) &
       (λ s. keeps-both stack.stlb) &
       (λ s. keeps-both stack.sthf) &
-      (λ s. keeps-pure stack.norm) &
-      (λ s. keeps-pure stack.ldiv) &
-      (λ s. keeps-pure stack.ldpi) &
       (λ s. keeps-both stack.stlf) &
-      (λ s. keeps-pure stack.xdbl) &
-      (λ s. keeps-pure stack.ldpri) &
-      (λ s. keeps-pure stack.rem) &
       (λ s m w f. fine-ret m f) &
       (λ s m w f. fine-lend m f) &
       (λ s. keeps-timer) &
-      (λ s. keeps-pure stack.testerr) &
-      (λ s. keeps-pure stack.testpranal) &
       (λ s m w f. fine-tin m (allowed 0x2B refl s) f) &
-      (λ s. keeps-pure stack.div) &
       (λ s m w f. fine-dist m (allowed 0x2E refl s) f) &
       (λ s m w f. fine-disc m f) &
       (λ s m w f. fine-diss m f) &
-      (λ s. keeps-pure stack.lmul) &
-      (λ s. keeps-pure stack.bitnot) &
-      (λ s. keeps-pure stack.xor) &
-      (λ s. keeps-pure stack.bcnt) &
       (λ s. keeps-attempt stack.lshr (allowed 0x35 refl s)) &
       (λ s. keeps-attempt stack.lshl (allowed 0x36 refl s)) &
-      (λ s. keeps-pure stack.lsum) &
-      (λ s. keeps-pure stack.lsub) &
       (λ s m w f. fine-runp m f) &
-      (λ s. keeps-pure stack.xword) &
       (λ s m w f. fine-sb m f) &
-      (λ s. keeps-pure stack.gajw) &
       (λ s m w f. fine-savel m f) &
       (λ s m w f. fine-saveh m f) &
-      (λ s. keeps-pure stack.wcnt) &
       (λ s. keeps-attempt stack.shr (allowed 0x40 refl s)) &
       (λ s. keeps-attempt stack.shl (allowed 0x41 refl s)) &
-      (λ s. keeps-pure stack.mint) &
       (λ s m w f. fine-alt m f) &
       (λ s m w f. fine-altwt m f) &
       (λ s m w f. fine-altend m f) &
-      (λ s. keeps-pure stack.and) &
       (λ s m w f. fine-enbt m (allowed 0x47 refl s) f) &
       (λ s m w f. fine-enbc m f) &
       (λ s m w f. fine-enbs m f) &
       (λ s m w f. fine-blockMove m f) &
-      (λ s. keeps-pure stack.or) &
-      (λ s. keeps-pure stack.csngl) &
-      (λ s. keeps-pure stack.ccnt1) &
       (λ s m w f. fine-talt m f) &
-      (λ s. keeps-pure stack.ldiff) &
       (λ s. keeps-both stack.sthb) &
       (λ s m w f. fine-taltwt m (allowed 0x51 refl s) f) &
-      (λ s. keeps-pure stack.sum) &
-      (λ s. keeps-pure stack.mul) &
       (λ s. keeps-both stack.sttimer) &
       (λ s m w f. fine-stoperr m f) &
-      (λ s. keeps-pure stack.cword) &
-      (λ s. keeps-pure stack.clrhalterr) &
-      (λ s. keeps-pure stack.sethalterr) &
-      (λ s. keeps-pure stack.testhalterr) &
       none
 
   all-direct : Rows (Keeps P) Free direct
@@ -247,7 +219,7 @@ module _ {P : ℕ → ℕ → ℕ → Type 0} where
       → {w : Work} → Fine P w → Fine P (operate code m w)
   unfolding operate Keeps
   fine-operate code m s h {w} f =
-      look-rows (Keeps P) (MayStop P) operations code unlistedAction (all-operations P) s (λ z m w f. fine-refuse unlisted (h z) f) m w f
+      look-rows (Keeps P) (MayStop P) operations code unlistedAction (all-operations (keeps-pure P) (others P)) s (λ z m w f. fine-refuse unlisted (h z) f) m w f
 
   pub fine-function : (code : ℕ) (m : List ℕ) → Turns P stop → Turns P unlisted → {w : Work} → Fine P w → Fine P (function code m w)
   unfolding Keeps

@@ -26,7 +26,6 @@ pub mod Start
 pub mod Steps
 pub mod Stops
 pub mod Stores
-pub mod Tables
 pub mod Touched
 pub mod Unique
 pub mod WorkedAccesses

@@ -17,7 +17,7 @@ use Rattle.rules.specs.Work.{Work, reg, put, lower, wptr, priority, stop, unlis
 use Rattle.rules.specs.Scheduling.{enabling, waiting, ready, timeSet, timeNotSet, portBase, pointerS, tlinkS, timeS}
 use Rattle.rules.specs.Timers.{nextTime, insertFirstStep, deleteFirstStep, tin, taltwtTime, taltwtLink, taltwtState, taltwt, enbtLink, enbtGuard, enbt, distSet, distLink, dist, timerStatus, timerWake, timerFront, timerServe, handleTimerRequest}
 use Rattle.rules.specs.Channels.{readyStatus, readyContent, handleReadyRequest, handleChannelRequest}
-use Rattle.rules.specs.Operations.{operations, operate}
+use Rattle.rules.specs.Operations.{registerOperations, otherOperations, operations, operate}
 use Rattle.rules.specs.declared.Attempt.{Attempt}
 use Rattle.rules.proofs.Tests.{yes-lt, no-lt, yes-eq, no-eq, cases-eq, cases-lt, by-bool}
 use Rattle.laws.specs.Lists.{listed}
@@ -231,7 +231,7 @@ data Rows : List (ℕ × Place) → Type 0 where
   _&_ : {code : ℕ} {p : Place} {t : List (ℕ × Place)} → Row code p → Rows t → Rows ((code, p) ∷ t)
 
 rows : Rows stopPlaces
-unfolding Row operate operations
+unfolding Row operate registerOperations otherOperations operations
 rows =
     (λ m w b. tin-stops m b) &
     (λ m w b. dist-stops m b) &

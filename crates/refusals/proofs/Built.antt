@@ -7,7 +7,7 @@ use native.Mathlib.Omega.{arith}
 use borrow.Author.Tests.{lt-leb, ne-eqb, ltb-true}
 use lib.Dec.{ltb, leb, eqb}
 use Rattle.rules.specs.Tests.{pick}
-use Rattle.rules.specs.Operations.{Action, operations}
+use Rattle.rules.specs.Operations.{Action, registerOperations, otherOperations, operations}
 use Rattle.rules.proofs.Tests.{cases-eq, cases-lt}
 use Rattle.laws.specs.Lists.{listed}
 use Rattle.laws.proofs.Calm.{never, and-false}
@@ -70,5 +70,5 @@ built-above k l =
     none-of _ _ _ _ _ (lt-leb k _ (omega arith)) (past _ _ k (omega arith)) (past _ _ k (omega arith)) (past _ _ k (omega arith)) (past _ _ k (omega arith))
 
 pub built-listed : (k : ℕ) → isBuilt k ≡ listed k operations
-unfolding agree bounded operations isBuilt same
+unfolding agree bounded registerOperations otherOperations operations isBuilt same
 built-listed k = cases-lt k 0x5A (λ h. agree-below 0x5A refl k h) (λ h. built-above k h ∙ sym (above operations refl k h))

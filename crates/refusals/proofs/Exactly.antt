@@ -55,13 +55,13 @@ module _ (m : Machine) (mem j : List ℕ) (byte : ℕ) (w : Work) where
   pairs : ℕ
   pairs = length (touched (length mem) (w .stored))
 
-  commit-or-refuse-first : rules.settled m mem j byte w .answer ≡ ifEq (w .answer) 0 (firstOf ((12, full pairs m j) ∷ [])) (w .answer)
-  unfolding rules.settled rules.recorded firstOf ifLt ifEq pairs
+  commit-or-refuse-first : rules.commitOrRefuse m mem j byte w .answer ≡ ifEq (w .answer) 0 (firstOf ((12, full pairs m j) ∷ [])) (w .answer)
+  unfolding rules.commitOrRefuse rules.recorded firstOf ifLt ifEq pairs
   commit-or-refuse-first = simp answer-of
 
   -- of a record of n pairs, where nothing else refuses the call
   commit-or-refuse-answer : (own : List (ℕ × Bool)) (n : ℕ) → Numbers own → w .answer ≡ firstOf own → (w .answer ≡ 0 → length (touched (length mem) (w .stored)) ≡ n)
-      → rules.settled m mem j byte w .answer ≡ firstOf (own ++ ((12, full n m j) ∷ []))
+      → rules.commitOrRefuse m mem j byte w .answer ≡ firstOf (own ++ ((12, full n m j) ∷ []))
   unfolding pairs
   commit-or-refuse-answer own n h e same = commit-or-refuse-first ∙ told ∙ rw e (then-first own ((12, full n m j) ∷ []) h)
     where
@@ -85,7 +85,7 @@ module _ (m : Machine) (mem j : List ℕ) where
   pub tick-exactly : rules.tick m mem j .answer ≡ firstOf (tickNumbers m mem j)
   unfolding rules.tick firstOf
   tick-exactly =
-      checked-answer false m mem j (rules.settled m mem j 0 (links.tick (begin (m .regs)))) ((12, full 0 m j) ∷ [])
+      checked-answer false m mem j (rules.commitOrRefuse m mem j 0 (links.tick (begin (m .regs)))) ((12, full 0 m j) ∷ [])
       (commit-or-refuse-answer m mem j 0 (links.tick (begin (m .regs))) [] 0 tt (tick-free (m .regs)) (λ z. no-pairs _ _ (tick-stored (m .regs))))
 
 -- what a link's advance keeps
@@ -201,7 +201,7 @@ module _ (m : Machine) (mem j : List ℕ) where
   pub event-exactly : rules.event m mem j .answer ≡ firstOf (eventNumbers m mem j)
   unfolding rules.event firstOf
   event-exactly =
-      checked-answer false m mem j (rules.settled m mem j 0 (links.event (begin (m .regs))))
+      checked-answer false m mem j (rules.commitOrRefuse m mem j 0 (links.event (begin (m .regs))))
       ((8, giveNotReady eventChannel (m .regs)) ∷ (12, full 0 m j) ∷ [])
       (commit-or-refuse-answer m mem j 0 (links.event (begin (m .regs))) ((8, giveNotReady eventChannel (m .regs)) ∷ []) 0 (λ t. omega arith, tt) (event-own (m .regs)) (λ z. no-pairs _ _ (event-stored (m .regs))))
 
@@ -269,7 +269,7 @@ module _ (r mem : List ℕ) where
 pub step-exactly : (m : Machine) (mem j : List ℕ) → length (m .regs) ≡ registers → rules.step m mem j .answer ≡ firstOf (stepNumbers m mem j)
 unfolding rules.step firstOf
 step-exactly m mem j h =
-    checked-answer false m mem j (rules.settled m mem j 0 (steps.step mem (begin (m .regs)))) (own ++ ((12, full (stepPairs (m .regs) mem) m j) ∷ []))
+    checked-answer false m mem j (rules.commitOrRefuse m mem j 0 (steps.step mem (begin (m .regs)))) (own ++ ((12, full (stepPairs (m .regs) mem) m j) ∷ []))
     (commit-or-refuse-answer m mem j 0 (steps.step mem (begin (m .regs))) own (stepPairs (m .regs) mem)
     (λ t. omega arith, (λ t. omega arith, (λ t. omega arith, (λ t. omega arith, (λ t. omega arith, tt))))) (step-own (m .regs) mem h) (λ z. refl))
   where

@@ -7,7 +7,7 @@ use Rattle.rules.specs.Stack as stack
 use Rattle.rules.specs.Registers.{oreg, coreOf, systemOf}
 use Rattle.rules.specs.Work.{Work, reg, putCore, onCore, onAttempt, onBoth, unlisted, refuse}
 use Rattle.rules.specs.Scheduling as scheduling
-use Rattle.rules.specs.Data as loads
+use Rattle.rules.specs.Data as dataRules
 use Rattle.rules.specs.Timers as timers
 use Rattle.rules.specs.Channels as channels
 use Rattle.rules.specs.declared.Core.{Core}
@@ -85,7 +85,7 @@ registerOperations =
 -- the operations that can Stop, that use queue pointers or clocks, that access memory or schedule: code and meaning (000 1.11, Operations)
 unfoldable pub otherOperations : List (ℕ × Action)
 otherOperations =
-    (0x01, loads.lb)
+    (0x01, dataRules.lb)
     ∷ (0x03, scheduling.endp)
     ∷ (0x07, channels.input)
     ∷ (0x0B, channels.output)
@@ -97,7 +97,7 @@ otherOperations =
     ∷ (0x17, pureBoth stack.stlb)
     ∷ (0x18, pureBoth stack.sthf)
     ∷ (0x1C, pureBoth stack.stlf)
-    ∷ (0x20, loads.ret)
+    ∷ (0x20, dataRules.ret)
     ∷ (0x21, scheduling.lend)
     ∷ (0x22, loadTimer)
     ∷ (0x2B, timers.tin)
@@ -107,18 +107,18 @@ otherOperations =
     ∷ (0x35, pureOrStop stack.lshr)
     ∷ (0x36, pureOrStop stack.lshl)
     ∷ (0x39, scheduling.runp)
-    ∷ (0x3B, loads.sb)
-    ∷ (0x3D, loads.savel)
-    ∷ (0x3E, loads.saveh)
+    ∷ (0x3B, dataRules.sb)
+    ∷ (0x3D, dataRules.savel)
+    ∷ (0x3E, dataRules.saveh)
     ∷ (0x40, pureOrStop stack.shr)
     ∷ (0x41, pureOrStop stack.shl)
     ∷ (0x43, channels.alt)
     ∷ (0x44, channels.altwt)
-    ∷ (0x45, loads.altend)
+    ∷ (0x45, dataRules.altend)
     ∷ (0x47, timers.enbt)
     ∷ (0x48, channels.enbc)
     ∷ (0x49, channels.enbs)
-    ∷ (0x4A, loads.blockMove)
+    ∷ (0x4A, dataRules.blockMove)
     ∷ (0x4E, timers.talt)
     ∷ (0x50, pureBoth stack.sthb)
     ∷ (0x51, timers.taltwt)
@@ -152,17 +152,17 @@ unfoldable pub functions : List (ℕ × Action)
 functions =
     (0x0, scheduling.j)
     ∷ (0x1, pure stack.ldlp)
-    ∷ (0x3, loads.ldnl)
+    ∷ (0x3, dataRules.ldnl)
     ∷ (0x4, pure stack.ldc)
     ∷ (0x5, pure stack.ldnlp)
-    ∷ (0x7, loads.ldl)
+    ∷ (0x7, dataRules.ldl)
     ∷ (0x8, pure stack.adc)
-    ∷ (0x9, loads.call)
+    ∷ (0x9, dataRules.call)
     ∷ (0xA, pure stack.cj)
     ∷ (0xB, pure stack.ajw)
     ∷ (0xC, pure stack.eqc)
-    ∷ (0xD, loads.stl)
-    ∷ (0xE, loads.stnl)
+    ∷ (0xD, dataRules.stl)
+    ∷ (0xE, dataRules.stnl)
     ∷ (0xF, opr)
     ∷ []
 

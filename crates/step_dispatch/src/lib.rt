@@ -1,5 +1,5 @@
-// Which function a byte names, and which operation Oreg names (000 1.11). Operations on registers alone are in core_table; the others, which
-// can Stop, use queue pointers or clocks, access memory or schedule, are here.
+// Dispatch: the function of a byte, the operation of Oreg (000 1.11; rules/specs/Operations.antt). Operations on registers alone are in
+// core_table. Here are those that can Stop, use queue pointers or clocks, access memory or schedule.
 use core_table::register_operation;
 use plan::Plan;
 use rules::names::*;
@@ -90,7 +90,7 @@ fn operate(w: Plan, mem: &[u32], code: u32) -> Plan
     other_operation(w, mem, code)
 }
 
-// The functions but for the prefixes.
+// Does the function of a code; step_engine does the prefixes.
 pub fn function(w: Plan, mem: &[u32], code: u32) -> Plan
     requires { ⌜ Room 12 w × (w .count ≡ 0) ⌝ }
     ensures { λ r. ⌜ (view r ≡ operations.function code (now (mem .entry)) (view w)) × Ended 12 w r ⌝ }

@@ -1,5 +1,5 @@
-// One step (01, One step): as a plan over registers and memory, with the refusals 6, 7 and 9 to 11, and then commitOrRefuse.
-
+// One step (01, One step; rules/specs/Step.antt): planned over registers and memory, with the refusals 6, 7 and 9 to 11, then committed
+// or refused.
 use plan::Plan;
 use rules::Machine;
 use rules::REGISTERS;
@@ -15,7 +15,7 @@ ghost use Rattle.rules.specs.Journal.{boundsBad};
 ghost use Rattle.rules.specs.Calls.{outcomeOf, commitOrRefuse};
 ghost use Rattle.plan.specs.View.{view, Room, Grown, Ended};
 
-// Iptr grows by one, and Oreg takes the nibble in.
+// Advances Iptr and takes the nibble into Oreg.
 fn fetched(w: Plan, byte: u32) -> Plan
     ensures { λ r. ⌜ (view r ≡ step.fetched byte (view w)) × Grown 0 w r ⌝ }
 {
@@ -27,7 +27,7 @@ fn fetched(w: Plan, byte: u32) -> Plan
     )
 }
 
-// Any function but a prefix.
+// Does any function but a prefix, and acts on GotoSNP.
 fn execute(w: Plan, mem: &[u32], code: u32) -> Plan
     requires { ⌜ Room 12 w × (w .count ≡ 0) ⌝ }
     ensures { λ r. ⌜ (view r ≡ step.execute (now (mem .entry)) code (view w)) × Ended 12 w r ⌝ }
@@ -51,7 +51,7 @@ fn decode(w: Plan, mem: &[u32], code: u32) -> Plan
     execute(w, mem, code)
 }
 
-// (c) One instruction byte is fetched.
+// (c) Fetches one instruction byte and does it.
 fn instruction(w: Plan, mem: &[u32]) -> Plan
     requires { ⌜ Room 12 w × (w .count ≡ 0) ⌝ }
     ensures { λ r. ⌜ (view r ≡ step.instruction (now (mem .entry)) (view w)) × Ended 12 w r ⌝ }
@@ -75,7 +75,7 @@ fn instruction_unless_idle(w: Plan, mem: &[u32]) -> Plan
     plan::refuse(w, IDLE)
 }
 
-// (b) A timer that is ready.
+// (b) Serves a timer that is ready.
 fn timers_first(w: Plan, mem: &[u32]) -> Plan
     requires { ⌜ Room 12 w × (w .count ≡ 0) ⌝ }
     ensures { λ r. ⌜ (view r ≡ step.timersFirst (now (mem .entry)) (view w)) × Ended 12 w r ⌝ }
@@ -90,7 +90,7 @@ fn timers_first(w: Plan, mem: &[u32]) -> Plan
     instruction_unless_idle(w, mem)
 }
 
-// (a) The lowest channel with a request.
+// (a) Serves the lowest channel with a request.
 fn channels_first(w: Plan, mem: &[u32]) -> Plan
     requires { ⌜ Room 12 w × (w .count ≡ 0) ⌝ }
     ensures { λ r. ⌜ (view r ≡ step.channelsFirst (now (mem .entry)) (view w)) × Ended 12 w r ⌝ }
@@ -115,7 +115,7 @@ fn choose(w: Plan, mem: &[u32]) -> Plan
     instruction_unless_idle(w, mem)
 }
 
-// What a step does, or the refusal of its first condition or access that fails.
+// Plans a step, or refuses by the first condition or access that fails.
 pub fn step(regs: [u32; REGISTERS], mem: &[u32]) -> Plan
     ensures { λ r. ⌜ (view r ≡ step.step (now (mem .entry)) (begin regs)) × (r .cut ≤ r .n) × (r .n ≤ 16) ⌝ }
 {
@@ -128,7 +128,7 @@ pub fn step(regs: [u32; REGISTERS], mem: &[u32]) -> Plan
     plan::refuse(plan::begin(regs), HALTED)
 }
 
-// The step as a call, after its checks: worked out, then commitOrRefuse.
+// Makes the step of a call after its checks: plans it, then commits or refuses.
 pub fn planned(m: Machine, mem: &mut [u32], journal: &mut [u32]) -> Reply
     requires { ⌜ (length (now mem) ≤ 16384) × (length (now journal) ≤ 65536) × (boundsBad (length (now journal)) (m .depth) (m .used) ≡ false) ⌝ }
     ensures { λ r. ⌜ outcomeOf r (now (mem .exit)) (now (journal .exit)) ≡ commitOrRefuse m (now (mem .entry)) (now (journal .entry)) 0 (step.step (now (mem .entry)) (begin (m .regs))) ⌝ }

@@ -101,7 +101,7 @@ module _ (m rest : List ℕ) where
       t .done ≡ true → bitAnd (s .status) gotoSNPBit ≡ 0
       → steps.haltOnError (s .status) (steps.execute m code (begin (listed s rest))) ≡ left rest t
 
-  -- what is on the evaluation stack alone
+  -- a function on registers alone
   registers-left : (f : Core → Core) (s : Core) → fast.registersOnly f s .done ≡ true → bitAnd (s .status) gotoSNPBit ≡ 0
       → steps.haltOnError (s .status) (scheduling.actOnSNP m (put oreg 0 (putCore (f (coreOf (listed s rest))) (begin (listed s rest)))))
       ≡ left rest (fast.registersOnly f s)
@@ -238,7 +238,7 @@ module _ (m r : List ℕ) where
       (λ a. asked-nothing c a (not-not (pending.due 1 r) (rw (c, a) at h))))
       (λ c. never (rw c at h))
 
-  -- a nothingPending machine fetches
+  -- where nothing is pending, the step fetches
   pub record NothingPending : Type 0 where
     pub awake : bitAnd (getD r flagsReg 0) haltedFlag ≡ 0
     pub busy : bitAnd (getD r flagsReg 0) idleFlag ≡ 0
@@ -267,7 +267,7 @@ module _ (m r : List ℕ) where
   unfolding steps.step steps.instructionUnlessIdle
   nothing-pending-step q = rw (yes-eq (q .awake), q .first, yes-eq (q .busy))
 
--- THE LAW: a common step is the step of rules
+-- the law: a common step is the step of rules
 listed-step : (m : List ℕ) (s : Core) (rest : List ℕ) → fast.fast m (listed s rest) .done ≡ true
     → steps.step m (begin (listed s rest)) ≡ fast.fastWork (listed s rest) (fast.fast m (listed s rest))
 unfolding fast.fast coreOf withCore

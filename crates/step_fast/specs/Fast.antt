@@ -17,7 +17,7 @@ use Rattle.core_table.specs.Selected.{registerOperation}
 use Rattle.core_table.specs.declared.Selected.{Selected}
 use Rattle.step_fast.specs.declared.FastStep.{FastStep}
 
--- left to the engine (DECISIONS 54)
+-- declined: step_engine makes the step (DECISIONS 54)
 abbrev pub decline : FastStep
 decline = record { done = false; core = core 0 0 0 0 0 0 0; stores = false; index = 0; value = 0 }
 
@@ -29,11 +29,11 @@ finish s = record { done = true; core = withOreg 0 s; stores = false; index = 0;
 abbrev pub finishStoring : ℕ → ℕ → Core → FastStep
 finishStoring i v s = record { done = true; core = withOreg 0 s; stores = true; index = i; value = v }
 
--- done, and Oreg is ifSameStatus: a prefix (01, One step; DECISIONS 54)
+-- a prefix: done, and Oreg keeps its value (01, One step; DECISIONS 54)
 abbrev pub prefix : Core → FastStep
 prefix s = record { done = true; core = s; stores = false; index = 0; value = 0 }
 
--- done where Status is as before, so that nothing halts and no process is to be started; else left to the engine
+-- done where Status is as before, so that nothing halts and GotoSNP stays clear; else declined
 -- (01, One step; DECISIONS 54)
 unfoldable pub ifSameStatus : ℕ → FastStep → FastStep
 ifSameStatus status t = ifEq (t .core .status) status t decline
@@ -41,35 +41,35 @@ ifSameStatus status t = ifEq (t .core .status) status t decline
 -- ---- the functions, on the registers after the fetch
 
 module _ (m : List ℕ) where
-  -- load local (000 1.11, ldl); outside memory it is left to the engine (DECISIONS 54)
+  -- load local (000 1.11, ldl); outside memory it is declined (DECISIONS 54)
   unfoldable pub ldl : Core → FastStep
   ldl s =
       ifLt (index (atWord (wptrOf (s .wdesc)) (s .oreg))) (length m)
       (finish (push (getD m (index (atWord (wptrOf (s .wdesc)) (s .oreg))) 0) s))
       decline
 
-  -- load non-local (000 1.11, ldnl); outside memory it is left to the engine (DECISIONS 54)
+  -- load non-local (000 1.11, ldnl); outside memory it is declined (DECISIONS 54)
   unfoldable pub ldnl : Core → FastStep
   ldnl s =
       ifLt (index (atWord (s .a) (s .oreg))) (length m)
       (finish (withA (getD m (index (atWord (s .a) (s .oreg))) 0) s))
       decline
 
-  -- store local (000 1.11, stl); outside memory it is left to the engine (DECISIONS 54)
+  -- store local (000 1.11, stl); outside memory it is declined (DECISIONS 54)
   unfoldable pub stl : Core → FastStep
   stl s =
       ifLt (index (atWord (wptrOf (s .wdesc)) (s .oreg))) (length m)
       (finishStoring (index (atWord (wptrOf (s .wdesc)) (s .oreg))) (s .a) (pop s))
       decline
 
-  -- store non-local (000 1.11, stnl); outside memory it is left to the engine (DECISIONS 54)
+  -- store non-local (000 1.11, stnl); outside memory it is declined (DECISIONS 54)
   unfoldable pub stnl : Core → FastStep
   stnl s =
       ifLt (index (atWord (s .a) (s .oreg))) (length m)
       (finishStoring (index (atWord (s .a) (s .oreg))) (s .b) (withA (s .c) s))
       decline
 
--- jump (000 1.11, j); where a slice ends it is left to the engine (DECISIONS 54)
+-- jump (000 1.11, j); where a slice ends it is declined (DECISIONS 54)
 unfoldable pub j : List ℕ → Core → FastStep
 j r s = pick (sliceEnds s r) decline (finish (withIptr (atByte (s .iptr) (s .oreg)) s))
 
@@ -79,11 +79,11 @@ j r s = pick (sliceEnds s r) decline (finish (withIptr (atByte (s .iptr) (s .ore
 abbrev pub registersOnly : (Core → Core) → Core → FastStep
 registersOnly f s = ifSameStatus (s .status) (finish (f s))
 
--- a code that is not in the table here: left to the engine (DECISIONS 54)
+-- a code that is not in the table here is declined (DECISIONS 54)
 abbrev pub other : Core → FastStep
 other s = decline
 
--- what the table of operations on registers alone gave, done where it leaves Status as it was; else left to the engine (DECISIONS 54)
+-- what the table of operations on registers alone gave, done where it leaves Status as it was; else declined (DECISIONS 54)
 abbrev pub ofTable : ℕ → Selected → FastStep
 ofTable status t = pick (t .found) (ifSameStatus status (finish (t .core))) decline
 
@@ -125,7 +125,7 @@ functions m r =
 unfoldable pub decode : List ℕ → List ℕ → ℕ → Core → FastStep
 decode m r code s = look (functions m r) code other s
 
--- ---- the whole of it
+-- ---- the step
 
 -- the registers once a byte is fetched: Iptr grows by one, and Oreg takes the nibble in (01, One step (c); DECISIONS 2)
 abbrev pub fetched : ℕ → Core → Core
@@ -135,14 +135,14 @@ fetched byte s = withIptr (atByte (s .iptr) 1) (withOreg (withNibble byte (s .or
 unfoldable pub decoded : List ℕ → List ℕ → ℕ → Core → FastStep
 decoded m r byte s = decode m r (byte / 2 ^ 4) (fetched byte s)
 
--- one instruction byte is fetched at Iptr (01, One step (c)); outside memory it is left to the engine (DECISIONS 54)
+-- one instruction byte is fetched at Iptr (01, One step (c)); outside memory it is declined (DECISIONS 54)
 unfoldable pub fetch : List ℕ → List ℕ → Core → FastStep
 fetch m r s =
     ifLt (index (s .iptr)) (length m)
     (decoded m r (byteOf (selector (s .iptr)) (getD m (index (s .iptr)) 0)) s)
     decline
 
--- a common step, or left to the engine (01, One step; DECISIONS 54)
+-- a common step, or declined (01, One step; DECISIONS 54)
 unfoldable pub fast : List ℕ → List ℕ → FastStep
 fast m r = pick (nothingPending r) (fetch m r (coreOf r)) decline
 

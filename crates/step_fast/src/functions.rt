@@ -1,4 +1,4 @@
-// The functions of common steps, on the seven registers after the fetch.
+// The functions of common steps, on the seven registers after the fetch (000 1.11).
 use crate::FastStep;
 use core_arith::word;
 use core_ops::errors;
@@ -11,7 +11,7 @@ ghost use mathlib.Core.Path.{_≡_};
 ghost use Rattle.step_fast.specs.Fast as fast;
 ghost use Rattle.rules.specs.Core as core;
 
-// Left to the engine.
+// Declines the step.
 pub fn decline() -> FastStep
     ensures { λ r. ⌜ r ≡ fast.decline ⌝ }
 {
@@ -33,7 +33,7 @@ pub fn decline() -> FastStep
     }
 }
 
-// Done; a prefix keeps Oreg.
+// Finishes a prefix: Oreg keeps its value.
 fn prefix(s: Core) -> FastStep
     ensures { λ r. ⌜ r ≡ fast.prefix s ⌝ }
 {
@@ -46,7 +46,7 @@ fn prefix(s: Core) -> FastStep
     }
 }
 
-// Done, with Oreg 0 afterwards.
+// Finishes a step without a store: Oreg becomes 0.
 fn finish(s: Core) -> FastStep
     ensures { λ r. ⌜ r ≡ fast.finish s ⌝ }
 {
@@ -69,7 +69,7 @@ fn finish_storing(i: u32, v: u32, s: Core) -> FastStep
     }
 }
 
-// What works on the evaluation stack alone: t is what it makes of the registers, and Status before is given.
+// Finishes a step on registers alone if Status did not change, else declines: t is the registers after it, status the one before.
 fn finish_if_same_status(status: u32, t: Core) -> FastStep
     ensures { λ r. ⌜ r ≡ fast.ifSameStatus status (fast.finish t) ⌝ }
 {
@@ -144,7 +144,7 @@ fn operate(code: u32, s: Core) -> FastStep
     decline()
 }
 
-// One function; regs are all registers before the step.
+// Does the function of a code; regs are all registers before the step.
 pub fn decode(mem: &[u32], regs: [u32; REGISTERS], code: u32, s: Core) -> FastStep
     ensures { λ r. ⌜ r ≡ fast.decode (now (mem .entry)) regs code s ⌝ }
 {

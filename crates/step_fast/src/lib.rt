@@ -1,6 +1,6 @@
-// The common steps, done on the seven registers of Core and at most one store: what nearly every step of a program is.
-// A step that is not among them, or that anything comes before or after, is left to the engine.
-pub mod functions; // The functions of common steps, on the seven registers after the fetch.
+// Common steps (DECISIONS 54; specs/Fast.antt): nearly every step of a program works on the seven registers of Core and makes at most one
+// store. Declines every other step, and one that changes Status; step_engine makes those.
+pub mod functions; // the sixteen functions, after the fetch
 
 use rules::Core;
 use rules::REGISTERS;
@@ -9,7 +9,7 @@ ghost use Prim.Native.Nat.{_<_};
 ghost use Rattle.rules.specs.Registers as registers;
 ghost use Rattle.step_fast.specs.Fast as fast;
 
-// What a common step comes to: whether it is one, the registers after it, and its store if it has one.
+// The outcome: done or declined, the registers after the step, and its store if it makes one.
 pub struct FastStep {
     pub done: bool,
     pub core: Core,
@@ -18,7 +18,7 @@ pub struct FastStep {
     pub value: u32,
 }
 
-// The seven registers.
+// Takes the seven registers out of all.
 fn core_of(regs: [u32; REGISTERS]) -> Core
     ensures { λ r. ⌜ r ≡ registers.coreOf regs ⌝ }
 {
@@ -33,7 +33,7 @@ fn core_of(regs: [u32; REGISTERS]) -> Core
     }
 }
 
-// The registers once a byte is fetched.
+// Advances Iptr and takes the nibble into Oreg.
 fn fetched(byte: u32, s: Core) -> Core
     ensures { λ r. ⌜ r ≡ fast.fetched byte s ⌝ }
 {
@@ -60,7 +60,7 @@ fn fetch(mem: &[u32], regs: [u32; REGISTERS], s: Core) -> FastStep
     functions::decline()
 }
 
-// The next instruction as a common step, or that it is none. It is the step of a machine that is quiet (crate quiet).
+// Does the next instruction as a common step, or declines. This is the step of a machine where nothing is pending (step_pending).
 pub fn common_step(mem: &[u32], regs: [u32; REGISTERS]) -> FastStep
     ensures { λ r. ⌜ r ≡ fast.fetch (now (mem .entry)) regs (registers.coreOf regs) ⌝ }
 {

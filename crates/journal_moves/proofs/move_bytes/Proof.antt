@@ -24,48 +24,6 @@ abbrev μ-loop : tie.MeasureT-loop
 loop-holds : tie.Need-loop-holds Inv-loop μ-loop
 loop-holds c = record { len = refl; from = search needs; to = search needs; rest = refl }
 
-cast-byte-of : tie.Need-cast-byte-of Inv-loop μ-loop
-cast-byte-of c = search needs
-
-mul-byte-of : tie.Need-mul-byte-of Inv-loop μ-loop
-mul-byte-of c = search needs
-
-slice-read-byte-of : tie.Need-slice-read-byte-of Inv-loop μ-loop
-slice-read-byte-of c = search needs
-
-byte-of-requires : tie.Need-byte-of-requires Inv-loop μ-loop
-byte-of-requires c κs = search needs
-
-cast-with-byte : tie.Need-cast-with-byte Inv-loop μ-loop
-cast-with-byte c = search needs
-
-mul-with-byte : tie.Need-mul-with-byte Inv-loop μ-loop
-mul-with-byte c = search needs
-
-slice-read-with-byte : tie.Need-slice-read-with-byte Inv-loop μ-loop
-slice-read-with-byte c = search needs
-
-with-byte-requires : tie.Need-with-byte-requires Inv-loop μ-loop
-with-byte-requires c κs = search needs
-
-mul-mem : tie.Need-mul-mem Inv-loop μ-loop
-mul-mem c = search needs
-
-slice-write-mem : tie.Need-slice-write-mem Inv-loop μ-loop
-slice-write-mem c = search needs
-
-add-s : tie.Need-add-s Inv-loop μ-loop
-add-s c = search needs
-
-add-d : tie.Need-add-d Inv-loop μ-loop
-add-d c = search needs
-
-sub-left : tie.Need-sub-left Inv-loop μ-loop
-sub-left c = search needs
-
-loop-less : tie.Need-loop-less Inv-loop μ-loop
-loop-less c = search needs
-
 loop-again : tie.Need-loop-again Inv-loop μ-loop
 loop-again c =
     let b = c .before .before in
@@ -93,25 +51,13 @@ returns c =
 
 pub move-bytes-spec : {M : Type 1} → statement M
 move-bytes-spec =
-    tie.close
-    (tie.spec
+    tie.close (tie.spec
     Inv-loop
     μ-loop
     loop-holds
-    cast-byte-of
-    mul-byte-of
-    slice-read-byte-of
-    byte-of-requires
-    cast-with-byte
-    mul-with-byte
-    slice-read-with-byte
-    with-byte-requires
-    mul-mem
-    slice-write-mem
-    add-s
-    add-d
-    sub-left
-    loop-less
+    (λ c. search needs) (λ c. search needs) (λ c. search needs) (λ c κs. search needs) (λ c. search needs) (λ c. search needs)
+    (λ c. search needs) (λ c κs. search needs) (λ c. search needs) (λ c. search needs) (λ c. search needs) (λ c. search needs)
+    (λ c. search needs) (λ c. search needs)
     loop-again
     same-length
     returns)

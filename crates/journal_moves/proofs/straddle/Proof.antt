@@ -5,25 +5,13 @@ use borrow.Author.Needs.{needs}
 use Rattle.journal_moves.proofs.straddle.Statement.{statement}
 use Rattle.journal_moves.proofs.straddle.Tie as tie
 
-returns : tie.Need-returns
-returns c = rw (c .match .keys1)
-
-returns-2 : tie.Need-returns-2
-returns-2 c = rw (c .match .keys2)
-
 returns-3 : tie.Need-returns-3
 returns-3 c = let e : c .before .args .k ≡ 3 = omega arith in rw e
 
 pub straddle-spec : {M : Type 1} → statement M
 straddle-spec =
-    tie.close
-    (tie.spec
-    (λ c. search needs)
-    (λ c. search needs)
-    (λ c. search needs)
-    (λ c. search needs)
-    (λ c. search needs)
-    (λ c. search needs)
-    returns
-    returns-2
+    tie.close (tie.spec
+    (λ c. search needs) (λ c. search needs) (λ c. search needs) (λ c. search needs) (λ c. search needs) (λ c. search needs)
+    (λ c. rw (c .match .keys1))
+    (λ c. rw (c .match .keys2))
     returns-3)

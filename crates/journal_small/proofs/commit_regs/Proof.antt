@@ -16,9 +16,6 @@ use Rattle.journal_small.proofs.commit_regs.Tie as tie
 good : (c : tie.Start) → (c .args .m .used ≤ length (c .args .journal .now)) × (recordLength 0 * c .args .m .depth ≤ c .args .m .used) × (length (c .args .journal .now) ≤ 65536)
 good c = let f = bounds-good _ _ _ (c .pre .1) in (f .0, f .1, c .pre .0)
 
-is-full-requires : tie.Need-is-full-requires
-is-full-requires c κs = (good (c .before .before) .0, omega arith)
-
 returns : tie.Need-returns
 returns c =
     let i = c .before in
@@ -58,4 +55,13 @@ returns-2 c =
     ∙ regs-outcome (a .m) (a .mem .now) (a .journal .now) (a .regs)
 
 pub commit-regs-spec : {M : Type 1} → statement M
-commit-regs-spec = tie.close (tie.spec is-full-requires (λ c κs. search needs) returns put-tail-requires add-t9 add-t14 (λ c. search needs) returns-2)
+commit-regs-spec =
+    tie.close (tie.spec
+    (λ c κs. (good (c .before .before) .0, omega arith))
+    (λ c κs. search needs)
+    returns
+    put-tail-requires
+    add-t9
+    add-t14
+    (λ c. search needs)
+    returns-2)

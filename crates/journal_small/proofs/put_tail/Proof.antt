@@ -9,9 +9,6 @@ use Rattle.journal_small.proofs.put_tail.Tie as tie
 long : (c : tie.Start) → length (c .args .regs) ≡ registers
 long c = search needs
 
-same-length : tie.Need-same-length
-same-length c = simp length-set (c .before .before .put-regs .kept .0)
-
 returns : tie.Need-returns
 returns c =
     let g = c .before .before in
@@ -19,4 +16,8 @@ returns c =
     rw (g .put-regs .ensures) (tail-written (S .before .args .journal .now) (S .before .args .regs) (S .before .args .at) (S .before .args .n) (long (S .before)))
 
 pub put-tail-spec : {M : Type 1} → statement M
-put-tail-spec = tie.close (tie.spec (λ c. search needs) (λ c κs. search needs) (λ c. search needs) (λ c. search needs) same-length returns)
+put-tail-spec =
+    tie.close (tie.spec
+    (λ c. search needs) (λ c κs. search needs) (λ c. search needs) (λ c. search needs)
+    (λ c. simp length-set (c .before .before .put-regs .kept .0))
+    returns)

@@ -6,14 +6,10 @@ use borrow.Author.Needs.{needs}
 use Rattle.loading.proofs.code_byte.Statement.{statement}
 use Rattle.loading.proofs.code_byte.Tie as tie
 
-cast-result : tie.Need-cast-result
-cast-result c = omega (arith, c .shared-slice-known .given (c .before .before .args .k))
-
-returns : tie.Need-returns
-returns c = (refl, omega (arith, c .shared-slice-known .given (c .before .before .args .k)))
-
-returns-2 : tie.Need-returns-2
-returns-2 c = (past-end (c .before .args .code .now) (c .before .args .k) (c .if1 .left), omega arith)
-
 pub code-byte-spec : {M : Type 1} → statement M
-code-byte-spec = tie.close (tie.spec (λ c. search needs) cast-result returns returns-2)
+code-byte-spec =
+    tie.close (tie.spec
+    (λ c. search needs)
+    (λ c. omega (arith, c .shared-slice-known .given (c .before .before .args .k)))
+    (λ c. (refl, omega (arith, c .shared-slice-known .given (c .before .before .args .k))))
+    (λ c. (past-end (c .before .args .code .now) (c .before .args .k) (c .if1 .left), omega arith)))

@@ -25,24 +25,6 @@ abbrev μ-loop : tie.MeasureT-loop
 loop-holds : tie.Need-loop-holds Inv-loop μ-loop
 loop-holds c = record { len = refl; small = search needs; here = omega arith; rest = refl }
 
-fresh-word-requires : tie.Need-fresh-word-requires Inv-loop μ-loop
-fresh-word-requires c κs = search needs
-
-mul-mem : tie.Need-mul-mem Inv-loop μ-loop
-mul-mem c = search needs
-
-slice-write-mem : tie.Need-slice-write-mem Inv-loop μ-loop
-slice-write-mem c = search needs
-
-add-i : tie.Need-add-i Inv-loop μ-loop
-add-i c = search needs
-
-sub-left : tie.Need-sub-left Inv-loop μ-loop
-sub-left c = search needs
-
-loop-less : tie.Need-loop-less Inv-loop μ-loop
-loop-less c = search needs
-
 loop-again : tie.Need-loop-again Inv-loop μ-loop
 loop-again c =
     let T = c .before in
@@ -67,17 +49,11 @@ returns c =
 
 pub fill-spec : {M : Type 1} → statement M
 fill-spec =
-    tie.close
-    (tie.spec
+    tie.close (tie.spec
     Inv-loop
     μ-loop
     loop-holds
-    fresh-word-requires
-    mul-mem
-    slice-write-mem
-    add-i
-    sub-left
-    loop-less
+    (λ c κs. search needs) (λ c. search needs) (λ c. search needs) (λ c. search needs) (λ c. search needs) (λ c. search needs)
     loop-again
     same-length
     returns)

@@ -3,8 +3,5 @@ use borrow.Author.Needs.{needs}
 use Rattle.loading.proofs.fresh_machine.Statement.{statement}
 use Rattle.loading.proofs.fresh_machine.Tie as tie
 
-returns : tie.Need-returns
-returns c = rw (c .fresh-regs .ensures)
-
 pub fresh-machine-spec : {M : Type 1} → statement M
-fresh-machine-spec = tie.close (tie.spec (λ c κs. search needs) returns)
+fresh-machine-spec = tie.close (tie.spec (λ c κs. search needs) (λ c. rw (c .fresh-regs .ensures)))

@@ -5,20 +5,10 @@ use borrow.Author.Needs.{needs}
 use Rattle.loading.proofs.fresh_regs.Statement.{statement}
 use Rattle.loading.proofs.fresh_regs.Tie as tie
 
-returns : tie.Need-returns
-unfolding freshRegs
-returns c = refl
-
 pub fresh-regs-spec : {M : Type 1} → statement M
+unfolding freshRegs
 fresh-regs-spec =
-    tie.close
-    (tie.spec
-    (λ c. search needs)
-    (λ c. search needs)
-    (λ c. search needs)
-    (λ c. search needs)
-    (λ c. search needs)
-    (λ c. search needs)
-    (λ c. search needs)
-    (λ c. search needs)
-    returns)
+    tie.close (tie.spec
+    (λ c. search needs) (λ c. search needs) (λ c. search needs) (λ c. search needs) (λ c. search needs) (λ c. search needs)
+    (λ c. search needs) (λ c. search needs)
+    (λ c. refl))

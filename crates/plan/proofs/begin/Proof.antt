@@ -3,9 +3,6 @@ use Rattle.plan.specs.View.{logged}
 use Rattle.plan.proofs.begin.Statement.{statement}
 use Rattle.plan.proofs.begin.Tie as tie
 
-returns : tie.Need-returns
-unfolding logged
-returns c = search needs
-
 pub begin-spec : {M : Type 1} → statement M
-begin-spec = tie.close (tie.spec returns)
+unfolding logged
+begin-spec = tie.close (tie.spec (λ c. search needs))

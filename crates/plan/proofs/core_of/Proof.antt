@@ -4,19 +4,10 @@ use borrow.Author.Needs.{needs}
 use Rattle.plan.proofs.core_of.Statement.{statement}
 use Rattle.plan.proofs.core_of.Tie as tie
 
-returns : tie.Need-returns
-unfolding coreOf
-returns c = refl
-
 pub core-of-spec : {M : Type 1} → statement M
+unfolding coreOf
 core-of-spec =
-    tie.close
-    (tie.spec
+    tie.close (tie.spec
+    (λ c. search needs) (λ c. search needs) (λ c. search needs) (λ c. search needs) (λ c. search needs) (λ c. search needs)
     (λ c. search needs)
-    (λ c. search needs)
-    (λ c. search needs)
-    (λ c. search needs)
-    (λ c. search needs)
-    (λ c. search needs)
-    (λ c. search needs)
-    returns)
+    (λ c. refl))

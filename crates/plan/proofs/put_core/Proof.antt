@@ -5,19 +5,10 @@ use borrow.Author.Needs.{needs}
 use Rattle.plan.proofs.put_core.Statement.{statement}
 use Rattle.plan.proofs.put_core.Tie as tie
 
-returns : tie.Need-returns
-unfolding putCore withCore
-returns c = (refl, search needs)
-
 pub put-core-spec : {M : Type 1} → statement M
+unfolding putCore withCore
 put-core-spec =
-    tie.close
-    (tie.spec
+    tie.close (tie.spec
+    (λ c. search needs) (λ c. search needs) (λ c. search needs) (λ c. search needs) (λ c. search needs) (λ c. search needs)
     (λ c. search needs)
-    (λ c. search needs)
-    (λ c. search needs)
-    (λ c. search needs)
-    (λ c. search needs)
-    (λ c. search needs)
-    (λ c. search needs)
-    returns)
+    (λ c. (refl, search needs)))

@@ -5,20 +5,10 @@ use borrow.Author.Needs.{needs}
 use Rattle.plan.proofs.put_system.Statement.{statement}
 use Rattle.plan.proofs.put_system.Tie as tie
 
-returns : tie.Need-returns
-unfolding putSystem withSystem
-returns c = (refl, search needs)
-
 pub put-system-spec : {M : Type 1} → statement M
+unfolding putSystem withSystem
 put-system-spec =
-    tie.close
-    (tie.spec
-    (λ c. search needs)
-    (λ c. search needs)
-    (λ c. search needs)
-    (λ c. search needs)
-    (λ c. search needs)
-    (λ c. search needs)
-    (λ c. search needs)
-    (λ c. search needs)
-    returns)
+    tie.close (tie.spec
+    (λ c. search needs) (λ c. search needs) (λ c. search needs) (λ c. search needs) (λ c. search needs) (λ c. search needs)
+    (λ c. search needs) (λ c. search needs)
+    (λ c. (refl, search needs)))

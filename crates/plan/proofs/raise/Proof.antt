@@ -3,9 +3,6 @@ use borrow.Author.Needs.{needs}
 use Rattle.plan.proofs.raise.Statement.{statement}
 use Rattle.plan.proofs.raise.Tie as tie
 
-returns : tie.Need-returns
-unfolding raise
-returns c = (c .put .ensures .0, search needs)
-
 pub raise-spec : {M : Type 1} → statement M
-raise-spec = tie.close (tie.spec (λ c. search needs) (λ c. search needs) (λ c κs. search needs) returns)
+unfolding raise
+raise-spec = tie.close (tie.spec (λ c. search needs) (λ c. search needs) (λ c κs. search needs) (λ c. (c .put .ensures .0, search needs)))

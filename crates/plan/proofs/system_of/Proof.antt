@@ -4,20 +4,10 @@ use borrow.Author.Needs.{needs}
 use Rattle.plan.proofs.system_of.Statement.{statement}
 use Rattle.plan.proofs.system_of.Tie as tie
 
-returns : tie.Need-returns
-unfolding systemOf
-returns c = refl
-
 pub system-of-spec : {M : Type 1} → statement M
+unfolding systemOf
 system-of-spec =
-    tie.close
-    (tie.spec
-    (λ c. search needs)
-    (λ c. search needs)
-    (λ c. search needs)
-    (λ c. search needs)
-    (λ c. search needs)
-    (λ c. search needs)
-    (λ c. search needs)
-    (λ c. search needs)
-    returns)
+    tie.close (tie.spec
+    (λ c. search needs) (λ c. search needs) (λ c. search needs) (λ c. search needs) (λ c. search needs) (λ c. search needs)
+    (λ c. search needs) (λ c. search needs)
+    (λ c. refl))

@@ -4,13 +4,18 @@ use Rattle.rules.specs.Step as steps
 use Rattle.step_engine.proofs.channels_first.Statement.{statement}
 use Rattle.step_engine.proofs.channels_first.Tie as tie
 
-returns : tie.Need-returns
-unfolding steps.channelsFirst
-returns c = (rw (← c .before .before .before .requested .ensures, yes-lt (c .before .before .if1 .taken), ← c .before .handle-channel-request .ensures .0) (c .act-on-snp .ensures .0), search needs)
-
-returns-2 : tie.Need-returns-2
-unfolding steps.channelsFirst
-returns-2 c = (rw (← c .before .before .requested .ensures, no-lt (c .before .if1 .left)) (c .timers-first .ensures .0), search needs)
-
 pub channels-first-spec : {M : Type 1} → statement M
-channels-first-spec = tie.close (tie.spec (λ c κs. search needs) (λ c κs. search needs) (λ c κs. search needs) returns (λ c κs. search needs) returns-2)
+unfolding steps.channelsFirst
+channels-first-spec =
+    tie.close (tie.spec
+    (λ c κs. search needs) (λ c κs. search needs) (λ c κs. search needs)
+    (λ c. (
+      rw (
+        ← c .before .before .before .requested .ensures,
+        yes-lt (c .before .before .if1 .taken),
+        ← c .before .handle-channel-request .ensures .0,
+      ) (c .act-on-snp .ensures .0),
+      search needs,
+    ))
+    (λ c κs. search needs)
+    (λ c. (rw (← c .before .before .requested .ensures, no-lt (c .before .if1 .left)) (c .timers-first .ensures .0), search needs)))

@@ -4,13 +4,11 @@ use Rattle.rules.specs.Step as steps
 use Rattle.step_engine.proofs.choose.Statement.{statement}
 use Rattle.step_engine.proofs.choose.Tie as tie
 
-returns : tie.Need-returns
-unfolding steps.choose ifEq
-returns c = (rw (← c .before .before .between .ensures, c .before .if1 .taken) (c .channels-first .ensures .0), search needs)
-
-returns-2 : tie.Need-returns-2
-unfolding steps.choose ifEq
-returns-2 c = (rw (← c .before .before .between .ensures, c .before .if1 .left) (c .instruction-unless-idle .ensures .0), search needs)
-
 pub choose-spec : {M : Type 1} → statement M
-choose-spec = tie.close (tie.spec (λ c κs. search needs) (λ c κs. search needs) returns (λ c κs. search needs) returns-2)
+unfolding steps.choose ifEq
+choose-spec =
+    tie.close (tie.spec
+    (λ c κs. search needs) (λ c κs. search needs)
+    (λ c. (rw (← c .before .before .between .ensures, c .before .if1 .taken) (c .channels-first .ensures .0), search needs))
+    (λ c κs. search needs)
+    (λ c. (rw (← c .before .before .between .ensures, c .before .if1 .left) (c .instruction-unless-idle .ensures .0), search needs)))

@@ -4,17 +4,24 @@ use Rattle.rules.specs.Step as steps
 use Rattle.step_engine.proofs.decode.Statement.{statement}
 use Rattle.step_engine.proofs.decode.Tie as tie
 
-returns : tie.Need-returns
-unfolding steps.decode
-returns c = (rw (yes-eq (c .before .before .before .if1 .taken)) (rw (c .put-core .ensures .0, c .before .pfix .ensures, c .before .before .core-of .ensures)), search needs)
-
-returns-2 : tie.Need-returns-2
-unfolding steps.decode
-returns-2 c = (rw (no-eq (c .before .before .before .before .if1 .left), yes-eq (c .before .before .before .if2 .taken)) (rw (c .put-core2 .ensures .0, c .before .nfix .ensures, c .before .before .core-of2 .ensures)), search needs)
-
-returns-3 : tie.Need-returns-3
-unfolding steps.decode
-returns-3 c = (rw (no-eq (c .before .before .if1 .left), no-eq (c .before .if2 .left)) (c .execute .ensures .0), search needs)
-
 pub decode-spec : {M : Type 1} → statement M
-decode-spec = tie.close (tie.spec (λ c κs. search needs) (λ c κs. search needs) (λ c κs. search needs) returns (λ c κs. search needs) (λ c κs. search needs) (λ c κs. search needs) returns-2 (λ c κs. search needs) returns-3)
+unfolding steps.decode
+decode-spec =
+    tie.close (tie.spec
+    (λ c κs. search needs) (λ c κs. search needs) (λ c κs. search needs)
+    (λ c. (
+      rw (yes-eq (c .before .before .before .if1 .taken)) (rw (
+        c .put-core .ensures .0,
+        c .before .pfix .ensures,
+        c .before .before .core-of .ensures,
+      )),
+      search needs,
+    ))
+    (λ c κs. search needs) (λ c κs. search needs) (λ c κs. search needs)
+    (λ c. (
+      rw (no-eq (c .before .before .before .before .if1 .left), yes-eq (c .before .before .before .if2 .taken))
+          (rw (c .put-core2 .ensures .0, c .before .nfix .ensures, c .before .before .core-of2 .ensures)),
+      search needs,
+    ))
+    (λ c κs. search needs)
+    (λ c. (rw (no-eq (c .before .before .if1 .left), no-eq (c .before .if2 .left)) (c .execute .ensures .0), search needs)))

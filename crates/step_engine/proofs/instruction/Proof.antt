@@ -3,9 +3,16 @@ use Rattle.rules.specs.Step as steps
 use Rattle.step_engine.proofs.instruction.Statement.{statement}
 use Rattle.step_engine.proofs.instruction.Tie as tie
 
-returns : tie.Need-returns
-unfolding steps.instruction
-returns c = (rw (← c .before .before .before .byte-at .ensures .0, ← c .before .before .fetch-byte .ensures .0, ← c .before .fetched .ensures .0) (c .decode .ensures .0), search needs)
-
 pub instruction-spec : {M : Type 1} → statement M
-instruction-spec = tie.close (tie.spec (λ c. search needs) (λ c κs. search needs) (λ c κs. search needs) (λ c κs. search needs) (λ c κs. search needs) returns)
+unfolding steps.instruction
+instruction-spec =
+    tie.close (tie.spec
+    (λ c. search needs) (λ c κs. search needs) (λ c κs. search needs) (λ c κs. search needs) (λ c κs. search needs)
+    (λ c. (
+      rw (
+        ← c .before .before .before .byte-at .ensures .0,
+        ← c .before .before .fetch-byte .ensures .0,
+        ← c .before .fetched .ensures .0,
+      ) (c .decode .ensures .0),
+      search needs,
+    )))

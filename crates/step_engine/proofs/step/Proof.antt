@@ -4,13 +4,16 @@ use Rattle.rules.specs.Step as steps
 use Rattle.step_engine.proofs.step.Statement.{statement}
 use Rattle.step_engine.proofs.step.Tie as tie
 
-returns : tie.Need-returns
-unfolding steps.step
-returns c = (rw (yes-eq (c .before .before .before .if1 .taken), ← c .before .before .begin .ensures .0, ← c .before .choose .ensures .0) (c .halt-on-error .ensures .0), search needs, search needs)
-
-returns-2 : tie.Need-returns-2
-unfolding steps.step
-returns-2 c = (rw (no-eq (c .before .before .if1 .left), ← c .before .begin2 .ensures .0) (c .refuse .ensures .0), search needs, search needs)
-
 pub step-spec : {M : Type 1} → statement M
-step-spec = tie.close (tie.spec (λ c. search needs) (λ c κs. search needs) (λ c κs. search needs) (λ c. search needs) (λ c κs. search needs) returns (λ c κs. search needs) (λ c κs. search needs) returns-2)
+unfolding steps.step
+step-spec =
+    tie.close (tie.spec
+    (λ c. search needs) (λ c κs. search needs) (λ c κs. search needs) (λ c. search needs) (λ c κs. search needs)
+    (λ c. (
+      rw (yes-eq (c .before .before .before .if1 .taken), ← c .before .before .begin .ensures .0, ← c .before .choose .ensures .0)
+          (c .halt-on-error .ensures .0),
+      search needs,
+      search needs,
+    ))
+    (λ c κs. search needs) (λ c κs. search needs)
+    (λ c. (rw (no-eq (c .before .before .if1 .left), ← c .before .begin2 .ensures .0) (c .refuse .ensures .0), search needs, search needs)))

@@ -4,9 +4,9 @@ use borrow.Author.Needs.{needs}
 use Rattle.step_fast.proofs.decoded.Statement.{statement}
 use Rattle.step_fast.proofs.decoded.Tie as tie
 
-returns : tie.Need-returns
-unfolding fast.decoded
-returns c = rw (← c .before .fetched .ensures) (c .decode .ensures)
-
 pub decoded-spec : {M : Type 1} → statement M
-decoded-spec = tie.close (tie.spec (λ c κs. search needs) (λ c κs. search needs) returns)
+unfolding fast.decoded
+decoded-spec =
+    tie.close (tie.spec
+    (λ c κs. search needs) (λ c κs. search needs)
+    (λ c. rw (← c .before .fetched .ensures) (c .decode .ensures)))

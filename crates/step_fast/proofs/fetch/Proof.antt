@@ -11,21 +11,12 @@ returns c =
     let k = c .before .before .before .before in
     rw (← k .before .index-of .ensures, yes-lt (k .if1 .taken), ← c .before .before .before .selector .ensures .0, ← c .before .byte-of .ensures .0) (c .decoded .ensures)
 
-returns-2 : tie.Need-returns-2
-unfolding fast.fetch
-returns-2 c = rw (← c .before .before .index-of .ensures, no-lt (c .before .if1 .left)) (c .decline .ensures)
-
 pub fetch-spec : {M : Type 1} → statement M
+unfolding fast.fetch
 fetch-spec =
-    tie.close
-    (tie.spec
-    (λ c κs. search needs)
-    (λ c. search needs)
-    (λ c κs. search needs)
-    (λ c. search needs)
-    (λ c. search needs)
-    (λ c κs. search needs)
+    tie.close (tie.spec
+    (λ c κs. search needs) (λ c. search needs) (λ c κs. search needs) (λ c. search needs) (λ c. search needs) (λ c κs. search needs)
     (λ c κs. search needs)
     returns
     (λ c κs. search needs)
-    returns-2)
+    (λ c. rw (← c .before .before .index-of .ensures, no-lt (c .before .if1 .left)) (c .decline .ensures)))

@@ -3,8 +3,8 @@ use borrow.Author.Needs.{needs}
 use Rattle.step_fast.proofs.fetched.Statement.{statement}
 use Rattle.step_fast.proofs.fetched.Tie as tie
 
-returns : tie.Need-returns
-returns c = rw (c .with-nibble .ensures, c .before .at-byte .ensures)
-
 pub fetched-spec : {M : Type 1} → statement M
-fetched-spec = tie.close (tie.spec (λ c κs. search needs) (λ c κs. search needs) returns)
+fetched-spec =
+    tie.close (tie.spec
+    (λ c κs. search needs) (λ c κs. search needs)
+    (λ c. rw (c .with-nibble .ensures, c .before .at-byte .ensures)))

@@ -5,10 +5,9 @@ use borrow.Author.Needs.{needs}
 use Rattle.t414_run.proofs.print_tally.Statement.{statement}
 use Rattle.t414_run.proofs.print_tally.Tie as tie
 
-slice-aggregate-write-all : tie.Need-slice-aggregate-write-all
-slice-aggregate-write-all c = sym (length-take-le _ _ (omega arith))
-
 pub print-tally-spec : {M : Type 1} → statement M
 print-tally-spec =
-    tie.close
-    (tie.spec (λ c κs. search needs) (λ c. search needs) slice-aggregate-write-all (λ c κs. search needs) (λ c. search needs))
+    tie.close (tie.spec
+    (λ c κs. search needs) (λ c. search needs)
+    (λ c. sym (length-take-le _ _ (omega arith)))
+    (λ c κs. search needs) (λ c. search needs))

@@ -14,23 +14,8 @@ Inv-loop mem₀ journal₀ most machine₀ steps₀ mem journal machine steps = 
 abbrev μ-loop : tie.MeasureT-loop
 μ-loop mem₀ journal₀ most machine₀ steps₀ mem journal machine steps = 100 - steps
 
-most-steps-requires : tie.Need-most-steps-requires Inv-loop μ-loop
-most-steps-requires c κs = search needs
-
 loop-holds : tie.Need-loop-holds Inv-loop μ-loop
 loop-holds c = (refl, omega arith, refl, refl)
-
-step-requires : tie.Need-step-requires Inv-loop μ-loop
-step-requires c κs = search needs
-
-number-of-requires : tie.Need-number-of-requires Inv-loop μ-loop
-number-of-requires c κs = search needs
-
-same-length : tie.Need-same-length Inv-loop μ-loop
-same-length c = search needs
-
-same-length-2 : tie.Need-same-length-2 Inv-loop μ-loop
-same-length-2 c = search needs
 
 returns : tie.Need-returns Inv-loop μ-loop
 returns c =
@@ -38,23 +23,11 @@ returns c =
     let l = s .before .before .before .before .loop in
     run-end (l .machine) (l .mem) (l .journal) (s .step .result) _ _ (c .before .before .number-of .result) (s .step .ensures) (c .before .before .number-of .ensures) (l .steps) (omega arith) (c .if1 .taken) ∙ l .inv .0
 
-add-steps : tie.Need-add-steps Inv-loop μ-loop
-add-steps c = search needs
-
-loop-less : tie.Need-loop-less Inv-loop μ-loop
-loop-less c = search needs
-
 loop-again : tie.Need-loop-again Inv-loop μ-loop
 loop-again c =
     let s = c .before .before .before .before .before .before .before in
     let l = s .before .before .before .before .loop in
     (run-on (l .machine) (l .mem) (l .journal) (s .step .result) _ _ (c .before .before .number-of .result) (s .step .ensures) (c .before .before .number-of .ensures) (l .steps) (omega arith) (c .if1 .left) ∙ l .inv .0, omega arith, search needs, search needs)
-
-same-length-3 : tie.Need-same-length-3 Inv-loop μ-loop
-same-length-3 c = search needs
-
-same-length-4 : tie.Need-same-length-4 Inv-loop μ-loop
-same-length-4 c = search needs
 
 returns-2 : tie.Need-returns-2 Inv-loop μ-loop
 returns-2 c =
@@ -63,20 +36,14 @@ returns-2 c =
 
 pub run-spec : {M : Type 1} → statement M
 run-spec =
-    tie.close
-    (tie.spec
+    tie.close (tie.spec
     Inv-loop
     μ-loop
-    most-steps-requires
+    (λ c κs. search needs)
     loop-holds
-    step-requires
-    number-of-requires
-    same-length
-    same-length-2
+    (λ c κs. search needs) (λ c κs. search needs) (λ c. search needs) (λ c. search needs)
     returns
-    add-steps
-    loop-less
+    (λ c. search needs) (λ c. search needs)
     loop-again
-    same-length-3
-    same-length-4
+    (λ c. search needs) (λ c. search needs)
     returns-2)

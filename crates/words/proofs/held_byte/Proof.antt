@@ -5,8 +5,5 @@ use lib.Bits.{and-mask}
 use Rattle.words.proofs.held_byte.Statement.{statement}
 use Rattle.words.proofs.held_byte.Tie as tie
 
-returns : tie.Need-returns
-returns c = (refl, omega (arith, and-mask (c .args .x / 2 ^ 8) 8))
-
 pub held-byte-spec : {M : Type 1} → statement M
-held-byte-spec = tie.close (tie.spec returns)
+held-byte-spec = tie.close (tie.spec (λ c. (refl, omega (arith, and-mask (c .args .x / 2 ^ 8) 8))))

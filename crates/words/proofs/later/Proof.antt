@@ -6,8 +6,8 @@ use borrow.Author.Needs.{needs}
 use Rattle.words.proofs.later.Statement.{statement}
 use Rattle.words.proofs.later.Tie as tie
 
-returns : tie.Need-returns
-returns c = c .positive .ensures ∙ ap positive (omega arith) ∙ sym (later-wraps _ _ (search needs) (search needs))
-
 pub later-spec : {M : Type 1} → statement M
-later-spec = tie.close (tie.spec (λ c κs. search needs) (λ c κs. search needs) returns)
+later-spec =
+    tie.close (tie.spec
+    (λ c κs. search needs) (λ c κs. search needs)
+    (λ c. c .positive .ensures ∙ ap positive (omega arith) ∙ sym (later-wraps _ _ (search needs) (search needs))))

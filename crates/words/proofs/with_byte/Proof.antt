@@ -4,15 +4,6 @@ use borrow.Author.Needs.{needs}
 use Rattle.words.proofs.with_byte.Statement.{statement}
 use Rattle.words.proofs.with_byte.Tie as tie
 
-returns : tie.Need-returns
-returns c = rw (c .match .keys1) (omega arith)
-
-returns-2 : tie.Need-returns-2
-returns-2 c = rw (c .match .keys2) (omega arith)
-
-returns-3 : tie.Need-returns-3
-returns-3 c = rw (c .match .keys3) (omega arith)
-
 returns-4 : tie.Need-returns-4
 returns-4 c =
     let e : c .before .args .j ≡ 3 = omega (arith, c .match .rest .1, c .match .rest .0 .1, c .match .rest .0 .0 .1) in
@@ -20,21 +11,10 @@ returns-4 c =
 
 pub with-byte-spec : {M : Type 1} → statement M
 with-byte-spec =
-    tie.close
-    (tie.spec
-    (λ c. search needs)
-    (λ c. search needs)
-    (λ c. search needs)
-    (λ c. search needs)
-    (λ c. search needs)
-    (λ c. search needs)
-    (λ c. search needs)
-    (λ c. search needs)
-    (λ c. search needs)
-    (λ c. search needs)
-    (λ c. search needs)
-    (λ c. search needs)
-    returns
-    returns-2
-    returns-3
+    tie.close (tie.spec
+    (λ c. search needs) (λ c. search needs) (λ c. search needs) (λ c. search needs) (λ c. search needs) (λ c. search needs)
+    (λ c. search needs) (λ c. search needs) (λ c. search needs) (λ c. search needs) (λ c. search needs) (λ c. search needs)
+    (λ c. rw (c .match .keys1) (omega arith))
+    (λ c. rw (c .match .keys2) (omega arith))
+    (λ c. rw (c .match .keys3) (omega arith))
     returns-4)

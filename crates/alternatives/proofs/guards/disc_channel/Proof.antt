@@ -4,13 +4,18 @@ use Rattle.rules.specs.Channels.{discChannel}
 use Rattle.alternatives.proofs.guards.disc_channel.Statement.{statement}
 use Rattle.alternatives.proofs.guards.disc_channel.Tie as tie
 
-returns : tie.Need-returns
-unfolding discChannel
-returns c = (rw (← c .before .before .index-of .ensures, yes-lt (c .before .if1 .taken)) (c .disc-hard .ensures .0), search needs)
-
-returns-2 : tie.Need-returns-2
-unfolding discChannel
-returns-2 c = (rw (← c .before .before .before .before .index-of .ensures, no-lt (c .before .before .before .if1 .left), ← c .before .r-index-word .ensures .0) (c .disc-soft .ensures .0), search needs)
-
 pub disc-channel-spec : {M : Type 1} → statement M
-disc-channel-spec = tie.close (tie.spec (λ c. search needs) (λ c κs. search needs) (λ c. search needs) (λ c κs. search needs) returns (λ c. search needs) (λ c κs. search needs) (λ c κs. search needs) returns-2)
+unfolding discChannel
+disc-channel-spec =
+    tie.close (tie.spec
+    (λ c. search needs) (λ c κs. search needs) (λ c. search needs) (λ c κs. search needs)
+    (λ c. (rw (← c .before .before .index-of .ensures, yes-lt (c .before .if1 .taken)) (c .disc-hard .ensures .0), search needs))
+    (λ c. search needs) (λ c κs. search needs) (λ c κs. search needs)
+    (λ c. (
+      rw (
+        ← c .before .before .before .before .index-of .ensures,
+        no-lt (c .before .before .before .if1 .left),
+        ← c .before .r-index-word .ensures .0,
+      ) (c .disc-soft .ensures .0),
+      search needs,
+    )))

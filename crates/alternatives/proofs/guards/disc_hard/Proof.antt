@@ -3,9 +3,10 @@ use Rattle.rules.specs.Channels.{discHard}
 use Rattle.alternatives.proofs.guards.disc_hard.Statement.{statement}
 use Rattle.alternatives.proofs.guards.disc_hard.Tie as tie
 
-returns : tie.Need-returns
-unfolding discHard
-returns c = (rw (← c .before .before .w-index-word .ensures .0, ← c .before .lower .ensures .0) (c .disc-answer .ensures .0), search needs)
-
 pub disc-hard-spec : {M : Type 1} → statement M
-disc-hard-spec = tie.close (tie.spec (λ c. search needs) (λ c. search needs) (λ c. search needs) (λ c κs. search needs) (λ c. search needs) (λ c κs. search needs) (λ c κs. search needs) returns)
+unfolding discHard
+disc-hard-spec =
+    tie.close (tie.spec
+    (λ c. search needs) (λ c. search needs) (λ c. search needs) (λ c κs. search needs) (λ c. search needs) (λ c κs. search needs)
+    (λ c κs. search needs)
+    (λ c. (rw (← c .before .before .w-index-word .ensures .0, ← c .before .lower .ensures .0) (c .disc-answer .ensures .0), search needs)))

@@ -4,17 +4,20 @@ use Rattle.rules.specs.Channels.{discSoft}
 use Rattle.alternatives.proofs.guards.disc_soft.Statement.{statement}
 use Rattle.alternatives.proofs.guards.disc_soft.Tie as tie
 
-returns : tie.Need-returns
-unfolding discSoft
-returns c = (rw (yes-eq (c .before .if1 .taken)) (c .put .ensures .0), search needs)
-
-returns-2 : tie.Need-returns-2
-unfolding discSoft
-returns-2 c = (rw (no-eq (c .before .before .before .before .if1 .left), yes-eq (c .before .if2 .taken)) (c .disclaim .ensures .0), search needs)
-
-returns-3 : tie.Need-returns-3
-unfolding discSoft
-returns-3 c = (rw (no-eq (c .before .before .before .before .if1 .left), no-eq (c .before .if2 .left)) (c .is-this-selected-process .ensures .0), search needs)
-
 pub disc-soft-spec : {M : Type 1} → statement M
-disc-soft-spec = tie.close (tie.spec (λ c. search needs) (λ c κs. search needs) returns (λ c. search needs) (λ c. search needs) (λ c κs. search needs) returns-2 (λ c κs. search needs) returns-3)
+unfolding discSoft
+disc-soft-spec =
+    tie.close (tie.spec
+    (λ c. search needs) (λ c κs. search needs)
+    (λ c. (rw (yes-eq (c .before .if1 .taken)) (c .put .ensures .0), search needs))
+    (λ c. search needs) (λ c. search needs) (λ c κs. search needs)
+    (λ c. (
+      rw (no-eq (c .before .before .before .before .if1 .left), yes-eq (c .before .if2 .taken)) (c .disclaim .ensures .0),
+      search needs,
+    ))
+    (λ c κs. search needs)
+    (λ c. (
+      rw (no-eq (c .before .before .before .before .if1 .left), no-eq (c .before .if2 .left))
+          (c .is-this-selected-process .ensures .0),
+      search needs,
+    )))

@@ -3,9 +3,9 @@ use Rattle.rules.specs.Channels.{disclaim}
 use Rattle.alternatives.proofs.guards.disclaim.Statement.{statement}
 use Rattle.alternatives.proofs.guards.disclaim.Tie as tie
 
-returns : tie.Need-returns
-unfolding disclaim
-returns c = (rw (← c .before .w-index-word .ensures .0) (c .put .ensures .0), search needs)
-
 pub disclaim-spec : {M : Type 1} → statement M
-disclaim-spec = tie.close (tie.spec (λ c. search needs) (λ c κs. search needs) (λ c κs. search needs) returns)
+unfolding disclaim
+disclaim-spec =
+    tie.close (tie.spec
+    (λ c. search needs) (λ c κs. search needs) (λ c κs. search needs)
+    (λ c. (rw (← c .before .w-index-word .ensures .0) (c .put .ensures .0), search needs)))

@@ -3,9 +3,9 @@ use Rattle.rules.specs.Channels.{enbc}
 use Rattle.alternatives.proofs.guards.enbc.Statement.{statement}
 use Rattle.alternatives.proofs.guards.enbc.Tie as tie
 
-returns : tie.Need-returns
-unfolding enbc
-returns c = (rw (← c .before .enbc-guard .ensures .0) (c .drop-b .ensures .0), search needs)
-
 pub enbc-spec : {M : Type 1} → statement M
-enbc-spec = tie.close (tie.spec (λ c κs. search needs) (λ c κs. search needs) returns)
+unfolding enbc
+enbc-spec =
+    tie.close (tie.spec
+    (λ c κs. search needs) (λ c κs. search needs)
+    (λ c. (rw (← c .before .enbc-guard .ensures .0) (c .drop-b .ensures .0), search needs)))

@@ -4,13 +4,20 @@ use Rattle.rules.specs.Channels.{enbcChannel}
 use Rattle.alternatives.proofs.guards.enbc_channel.Statement.{statement}
 use Rattle.alternatives.proofs.guards.enbc_channel.Tie as tie
 
-returns : tie.Need-returns
-unfolding enbcChannel
-returns c = (rw (← c .before .before .index-of .ensures, yes-lt (c .before .if1 .taken)) (c .enbc-hard .ensures .0), search needs)
-
-returns-2 : tie.Need-returns-2
-unfolding enbcChannel
-returns-2 c = (rw (← c .before .before .before .before .before .before .index-of .ensures, no-lt (c .before .before .before .before .before .if1 .left), ← c .before .before .before .at-word .ensures, ← c .before .before .word-at .ensures, ← c .before .load-word .ensures .0) (c .enbc-soft .ensures .0), search needs)
-
 pub enbc-channel-spec : {M : Type 1} → statement M
-enbc-channel-spec = tie.close (tie.spec (λ c. search needs) (λ c κs. search needs) (λ c. search needs) (λ c κs. search needs) returns (λ c. search needs) (λ c κs. search needs) (λ c κs. search needs) (λ c κs. search needs) (λ c κs. search needs) returns-2)
+unfolding enbcChannel
+enbc-channel-spec =
+    tie.close (tie.spec
+    (λ c. search needs) (λ c κs. search needs) (λ c. search needs) (λ c κs. search needs)
+    (λ c. (rw (← c .before .before .index-of .ensures, yes-lt (c .before .if1 .taken)) (c .enbc-hard .ensures .0), search needs))
+    (λ c. search needs) (λ c κs. search needs) (λ c κs. search needs) (λ c κs. search needs) (λ c κs. search needs)
+    (λ c. (
+      rw (
+        ← c .before .before .before .before .before .before .index-of .ensures,
+        no-lt (c .before .before .before .before .before .if1 .left),
+        ← c .before .before .before .at-word .ensures,
+        ← c .before .before .word-at .ensures,
+        ← c .before .load-word .ensures .0,
+      ) (c .enbc-soft .ensures .0),
+      search needs,
+    )))

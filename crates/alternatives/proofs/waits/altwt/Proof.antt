@@ -3,9 +3,12 @@ use Rattle.rules.specs.Channels.{altwt}
 use Rattle.alternatives.proofs.waits.altwt.Statement.{statement}
 use Rattle.alternatives.proofs.waits.altwt.Tie as tie
 
-returns : tie.Need-returns
-unfolding altwt
-returns c = (rw (← c .before .before .w-index-word .ensures .0, ← c .before .r-index-word .ensures .0) (c .altwt-state .ensures .0), search needs)
-
 pub altwt-spec : {M : Type 1} → statement M
-altwt-spec = tie.close (tie.spec (λ c. search needs) (λ c κs. search needs) (λ c κs. search needs) (λ c κs. search needs) returns)
+unfolding altwt
+altwt-spec =
+    tie.close (tie.spec
+    (λ c. search needs) (λ c κs. search needs) (λ c κs. search needs) (λ c κs. search needs)
+    (λ c. (
+      rw (← c .before .before .w-index-word .ensures .0, ← c .before .r-index-word .ensures .0) (c .altwt-state .ensures .0),
+      search needs,
+    )))

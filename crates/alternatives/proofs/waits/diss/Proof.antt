@@ -3,9 +3,9 @@ use Rattle.rules.specs.Channels.{diss}
 use Rattle.alternatives.proofs.waits.diss.Statement.{statement}
 use Rattle.alternatives.proofs.waits.diss.Tie as tie
 
-returns : tie.Need-returns
-unfolding diss
-returns c = (rw (← c .before .diss-guard .ensures .0) (c .drop-b .ensures .0), search needs)
-
 pub diss-spec : {M : Type 1} → statement M
-diss-spec = tie.close (tie.spec (λ c κs. search needs) (λ c κs. search needs) returns)
+unfolding diss
+diss-spec =
+    tie.close (tie.spec
+    (λ c κs. search needs) (λ c κs. search needs)
+    (λ c. (rw (← c .before .diss-guard .ensures .0) (c .drop-b .ensures .0), search needs)))

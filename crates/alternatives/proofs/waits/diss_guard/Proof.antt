@@ -4,13 +4,11 @@ use Rattle.rules.specs.Channels.{dissGuard}
 use Rattle.alternatives.proofs.waits.diss_guard.Statement.{statement}
 use Rattle.alternatives.proofs.waits.diss_guard.Tie as tie
 
-returns : tie.Need-returns
-unfolding dissGuard
-returns c = (rw (yes-eq (c .before .if1 .taken)) (c .put .ensures .0), search needs)
-
-returns-2 : tie.Need-returns-2
-unfolding dissGuard
-returns-2 c = (rw (no-eq (c .before .if1 .left)) (c .is-this-selected-process .ensures .0), search needs)
-
 pub diss-guard-spec : {M : Type 1} → statement M
-diss-guard-spec = tie.close (tie.spec (λ c. search needs) (λ c κs. search needs) returns (λ c κs. search needs) returns-2)
+unfolding dissGuard
+diss-guard-spec =
+    tie.close (tie.spec
+    (λ c. search needs) (λ c κs. search needs)
+    (λ c. (rw (yes-eq (c .before .if1 .taken)) (c .put .ensures .0), search needs))
+    (λ c κs. search needs)
+    (λ c. (rw (no-eq (c .before .if1 .left)) (c .is-this-selected-process .ensures .0), search needs)))

@@ -3,9 +3,16 @@ use Rattle.rules.specs.Channels.{hardInputHeld}
 use Rattle.channels.proofs.hard.hard_input_held.Statement.{statement}
 use Rattle.channels.proofs.hard.hard_input_held.Tie as tie
 
-returns : tie.Need-returns
-unfolding hardInputHeld
-returns c = (rw (← c .before .before .before .hard-start .ensures .0, ← c .before .before .lower .ensures .0, ← c .before .meet-held .ensures .0) (c .goto-snp .ensures .0), search needs)
-
 pub hard-input-held-spec : {M : Type 1} → statement M
-hard-input-held-spec = tie.close (tie.spec (λ c. search needs) (λ c. search needs) (λ c κs. search needs) (λ c κs. search needs) (λ c κs. search needs) (λ c κs. search needs) returns)
+unfolding hardInputHeld
+hard-input-held-spec =
+    tie.close (tie.spec
+    (λ c. search needs) (λ c. search needs) (λ c κs. search needs) (λ c κs. search needs) (λ c κs. search needs) (λ c κs. search needs)
+    (λ c. (
+      rw (
+        ← c .before .before .before .hard-start .ensures .0,
+        ← c .before .before .lower .ensures .0,
+        ← c .before .meet-held .ensures .0,
+      ) (c .goto-snp .ensures .0),
+      search needs,
+    )))

@@ -3,9 +3,12 @@ use Rattle.rules.specs.Channels.{hardStart}
 use Rattle.channels.proofs.hard.hard_start.Statement.{statement}
 use Rattle.channels.proofs.hard.hard_start.Tie as tie
 
-returns : tie.Need-returns
-unfolding hardStart
-returns c = (rw (← c .before .before .w-index-word .ensures .0, ← c .before .save-iptr .ensures .0) (c .start-transfer .ensures .0), search needs)
-
 pub hard-start-spec : {M : Type 1} → statement M
-hard-start-spec = tie.close (tie.spec (λ c. search needs) (λ c. search needs) (λ c κs. search needs) (λ c κs. search needs) (λ c κs. search needs) returns)
+unfolding hardStart
+hard-start-spec =
+    tie.close (tie.spec
+    (λ c. search needs) (λ c. search needs) (λ c κs. search needs) (λ c κs. search needs) (λ c κs. search needs)
+    (λ c. (
+      rw (← c .before .before .w-index-word .ensures .0, ← c .before .save-iptr .ensures .0) (c .start-transfer .ensures .0),
+      search needs,
+    )))

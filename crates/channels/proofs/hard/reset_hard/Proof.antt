@@ -4,13 +4,10 @@ use Rattle.rules.specs.Channels.{resetHard}
 use Rattle.channels.proofs.hard.reset_hard.Statement.{statement}
 use Rattle.channels.proofs.hard.reset_hard.Tie as tie
 
-returns : tie.Need-returns
-unfolding resetHard
-returns c = (rw (yes-lt (c .before .if1 .taken)) (c .lower .ensures .0), search needs)
-
-returns-2 : tie.Need-returns-2
-unfolding resetHard
-returns-2 c = (rw (no-lt (c .if1 .left)), search needs)
-
 pub reset-hard-spec : {M : Type 1} → statement M
-reset-hard-spec = tie.close (tie.spec (λ c. search needs) (λ c. search needs) (λ c κs. search needs) returns returns-2)
+unfolding resetHard
+reset-hard-spec =
+    tie.close (tie.spec
+    (λ c. search needs) (λ c. search needs) (λ c κs. search needs)
+    (λ c. (rw (yes-lt (c .before .if1 .taken)) (c .lower .ensures .0), search needs))
+    (λ c. (rw (no-lt (c .if1 .left)), search needs)))

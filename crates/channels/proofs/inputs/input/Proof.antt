@@ -4,13 +4,20 @@ use Rattle.rules.specs.Channels.{input}
 use Rattle.channels.proofs.inputs.input.Statement.{statement}
 use Rattle.channels.proofs.inputs.input.Tie as tie
 
-returns : tie.Need-returns
-unfolding input
-returns c = (rw (← c .before .before .index-of .ensures, yes-lt (c .before .if1 .taken)) (c .hard-input .ensures .0), search needs)
-
-returns-2 : tie.Need-returns-2
-unfolding input
-returns-2 c = (rw (← c .before .before .before .before .before .before .index-of .ensures, no-lt (c .before .before .before .before .before .if1 .left), ← c .before .before .before .at-word .ensures, ← c .before .before .word-at .ensures, ← c .before .load-word .ensures .0) (c .soft-input .ensures .0), search needs)
-
 pub input-spec : {M : Type 1} → statement M
-input-spec = tie.close (tie.spec (λ c. search needs) (λ c κs. search needs) (λ c. search needs) (λ c κs. search needs) returns (λ c. search needs) (λ c κs. search needs) (λ c κs. search needs) (λ c κs. search needs) (λ c κs. search needs) returns-2)
+unfolding input
+input-spec =
+    tie.close (tie.spec
+    (λ c. search needs) (λ c κs. search needs) (λ c. search needs) (λ c κs. search needs)
+    (λ c. (rw (← c .before .before .index-of .ensures, yes-lt (c .before .if1 .taken)) (c .hard-input .ensures .0), search needs))
+    (λ c. search needs) (λ c κs. search needs) (λ c κs. search needs) (λ c κs. search needs) (λ c κs. search needs)
+    (λ c. (
+      rw (
+        ← c .before .before .before .before .before .before .index-of .ensures,
+        no-lt (c .before .before .before .before .before .if1 .left),
+        ← c .before .before .before .at-word .ensures,
+        ← c .before .before .word-at .ensures,
+        ← c .before .load-word .ensures .0,
+      ) (c .soft-input .ensures .0),
+      search needs,
+    )))

@@ -3,9 +3,17 @@ use Rattle.rules.specs.Channels.{inputReady}
 use Rattle.channels.proofs.inputs.input_ready.Statement.{statement}
 use Rattle.channels.proofs.inputs.input_ready.Tie as tie
 
-returns : tie.Need-returns
-unfolding inputReady
-returns c = (rw (← c .before .before .before .before .at-word .ensures, ← c .before .before .before .word-at .ensures, ← c .before .before .load-word .ensures .0, ← c .before .input-regs .ensures .0) (c .move-message .ensures .0), search needs)
-
 pub input-ready-spec : {M : Type 1} → statement M
-input-ready-spec = tie.close (tie.spec (λ c κs. search needs) (λ c κs. search needs) (λ c κs. search needs) (λ c κs. search needs) (λ c κs. search needs) returns)
+unfolding inputReady
+input-ready-spec =
+    tie.close (tie.spec
+    (λ c κs. search needs) (λ c κs. search needs) (λ c κs. search needs) (λ c κs. search needs) (λ c κs. search needs)
+    (λ c. (
+      rw (
+        ← c .before .before .before .before .at-word .ensures,
+        ← c .before .before .before .word-at .ensures,
+        ← c .before .before .load-word .ensures .0,
+        ← c .before .input-regs .ensures .0,
+      ) (c .move-message .ensures .0),
+      search needs,
+    )))

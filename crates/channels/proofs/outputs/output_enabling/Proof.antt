@@ -3,9 +3,9 @@ use Rattle.rules.specs.Channels.{outputEnabling}
 use Rattle.channels.proofs.outputs.output_enabling.Statement.{statement}
 use Rattle.channels.proofs.outputs.output_enabling.Tie as tie
 
-returns : tie.Need-returns
-unfolding outputEnabling
-returns c = (rw (← c .before .w-index-word .ensures .0) (c .soft-wait .ensures .0), search needs)
-
 pub output-enabling-spec : {M : Type 1} → statement M
-output-enabling-spec = tie.close (tie.spec (λ c κs. search needs) (λ c κs. search needs) returns)
+unfolding outputEnabling
+output-enabling-spec =
+    tie.close (tie.spec
+    (λ c κs. search needs) (λ c κs. search needs)
+    (λ c. (rw (← c .before .w-index-word .ensures .0) (c .soft-wait .ensures .0), search needs)))

@@ -3,9 +3,9 @@ use Rattle.rules.specs.Channels.{outputMessage}
 use Rattle.channels.proofs.outputs.output_message.Statement.{statement}
 use Rattle.channels.proofs.outputs.output_message.Tie as tie
 
-returns : tie.Need-returns
-unfolding outputMessage
-returns c = (rw (← c .before .before .w-index-word .ensures .0, ← c .before .put .ensures .0) (c .move-message .ensures .0), search needs)
-
 pub output-message-spec : {M : Type 1} → statement M
-output-message-spec = tie.close (tie.spec (λ c. search needs) (λ c κs. search needs) (λ c κs. search needs) (λ c κs. search needs) returns)
+unfolding outputMessage
+output-message-spec =
+    tie.close (tie.spec
+    (λ c. search needs) (λ c κs. search needs) (λ c κs. search needs) (λ c κs. search needs)
+    (λ c. (rw (← c .before .before .w-index-word .ensures .0, ← c .before .put .ensures .0) (c .move-message .ensures .0), search needs)))

@@ -3,9 +3,13 @@ use Rattle.rules.specs.Channels.{outputReady}
 use Rattle.channels.proofs.outputs.output_ready.Statement.{statement}
 use Rattle.channels.proofs.outputs.output_ready.Tie as tie
 
-returns : tie.Need-returns
-unfolding outputReady
-returns c = (rw (← c .before .before .before .at-word .ensures, ← c .before .before .word-at .ensures, ← c .before .load-word .ensures .0) (c .output-to .ensures .0), search needs)
-
 pub output-ready-spec : {M : Type 1} → statement M
-output-ready-spec = tie.close (tie.spec (λ c κs. search needs) (λ c κs. search needs) (λ c κs. search needs) (λ c κs. search needs) returns)
+unfolding outputReady
+output-ready-spec =
+    tie.close (tie.spec
+    (λ c κs. search needs) (λ c κs. search needs) (λ c κs. search needs) (λ c κs. search needs)
+    (λ c. (
+      rw (← c .before .before .before .at-word .ensures, ← c .before .before .word-at .ensures, ← c .before .load-word .ensures .0)
+          (c .output-to .ensures .0),
+      search needs,
+    )))

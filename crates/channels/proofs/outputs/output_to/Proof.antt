@@ -4,21 +4,23 @@ use Rattle.rules.specs.Channels.{outputTo}
 use Rattle.channels.proofs.outputs.output_to.Statement.{statement}
 use Rattle.channels.proofs.outputs.output_to.Tie as tie
 
-returns : tie.Need-returns
-unfolding outputTo
-returns c = (rw (yes-eq (c .before .if1 .taken)) (c .output-enabling .ensures .0), search needs)
-
-returns-2 : tie.Need-returns-2
-unfolding outputTo
-returns-2 c = (rw (no-eq (c .before .before .if1 .left), yes-eq (c .before .if2 .taken)) (c .output-waiting .ensures .0), search needs)
-
-returns-3 : tie.Need-returns-3
-unfolding outputTo
-returns-3 c = (rw (no-eq (c .before .before .before .if1 .left), no-eq (c .before .before .if2 .left), yes-eq (c .before .if3 .taken)) (c .soft-wait .ensures .0), search needs)
-
-returns-4 : tie.Need-returns-4
-unfolding outputTo
-returns-4 c = (rw (no-eq (c .before .before .before .if1 .left), no-eq (c .before .before .if2 .left), no-eq (c .before .if3 .left)) (c .output-message .ensures .0), search needs)
-
 pub output-to-spec : {M : Type 1} → statement M
-output-to-spec = tie.close (tie.spec (λ c κs. search needs) returns (λ c κs. search needs) returns-2 (λ c κs. search needs) returns-3 (λ c κs. search needs) returns-4)
+unfolding outputTo
+output-to-spec =
+    tie.close (tie.spec
+    (λ c κs. search needs)
+    (λ c. (rw (yes-eq (c .before .if1 .taken)) (c .output-enabling .ensures .0), search needs))
+    (λ c κs. search needs)
+    (λ c. (rw (no-eq (c .before .before .if1 .left), yes-eq (c .before .if2 .taken)) (c .output-waiting .ensures .0), search needs))
+    (λ c κs. search needs)
+    (λ c. (
+      rw (no-eq (c .before .before .before .if1 .left), no-eq (c .before .before .if2 .left), yes-eq (c .before .if3 .taken))
+          (c .soft-wait .ensures .0),
+      search needs,
+    ))
+    (λ c κs. search needs)
+    (λ c. (
+      rw (no-eq (c .before .before .before .if1 .left), no-eq (c .before .before .if2 .left), no-eq (c .before .if3 .left))
+          (c .output-message .ensures .0),
+      search needs,
+    )))

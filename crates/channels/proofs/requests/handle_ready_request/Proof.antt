@@ -3,9 +3,13 @@ use Rattle.rules.specs.Channels.{handleReadyRequest}
 use Rattle.channels.proofs.requests.handle_ready_request.Statement.{statement}
 use Rattle.channels.proofs.requests.handle_ready_request.Tie as tie
 
-returns : tie.Need-returns
-unfolding handleReadyRequest
-returns c = (rw (← c .before .before .before .at-word .ensures, ← c .before .before .word-at .ensures, ← c .before .load-word .ensures .0) (c .ready-content .ensures .0), search needs)
-
 pub handle-ready-request-spec : {M : Type 1} → statement M
-handle-ready-request-spec = tie.close (tie.spec (λ c. search needs) (λ c κs. search needs) (λ c κs. search needs) (λ c κs. search needs) (λ c κs. search needs) returns)
+unfolding handleReadyRequest
+handle-ready-request-spec =
+    tie.close (tie.spec
+    (λ c. search needs) (λ c κs. search needs) (λ c κs. search needs) (λ c κs. search needs) (λ c κs. search needs)
+    (λ c. (
+      rw (← c .before .before .before .at-word .ensures, ← c .before .before .word-at .ensures, ← c .before .load-word .ensures .0)
+          (c .ready-content .ensures .0),
+      search needs,
+    )))

@@ -3,9 +3,13 @@ use Rattle.rules.specs.Channels.{handleRunRequest}
 use Rattle.channels.proofs.requests.handle_run_request.Statement.{statement}
 use Rattle.channels.proofs.requests.handle_run_request.Tie as tie
 
-returns : tie.Need-returns
-unfolding handleRunRequest
-returns c = (rw (← c .before .before .before .at-word .ensures, ← c .before .before .word-at .ensures, ← c .before .load-word .ensures .0) (c .run-content .ensures .0), search needs)
-
 pub handle-run-request-spec : {M : Type 1} → statement M
-handle-run-request-spec = tie.close (tie.spec (λ c. search needs) (λ c κs. search needs) (λ c κs. search needs) (λ c κs. search needs) (λ c κs. search needs) returns)
+unfolding handleRunRequest
+handle-run-request-spec =
+    tie.close (tie.spec
+    (λ c. search needs) (λ c κs. search needs) (λ c κs. search needs) (λ c κs. search needs) (λ c κs. search needs)
+    (λ c. (
+      rw (← c .before .before .before .at-word .ensures, ← c .before .before .word-at .ensures, ← c .before .load-word .ensures .0)
+          (c .run-content .ensures .0),
+      search needs,
+    )))

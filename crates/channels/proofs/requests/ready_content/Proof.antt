@@ -3,9 +3,13 @@ use Rattle.rules.specs.Channels.{readyContent}
 use Rattle.channels.proofs.requests.ready_content.Statement.{statement}
 use Rattle.channels.proofs.requests.ready_content.Tie as tie
 
-returns : tie.Need-returns
-unfolding readyContent
-returns c = (rw (← c .before .before .before .at-word .ensures, ← c .before .before .word-at .ensures, ← c .before .load-word .ensures .0) (c .ready-status .ensures .0), search needs)
-
 pub ready-content-spec : {M : Type 1} → statement M
-ready-content-spec = tie.close (tie.spec (λ c κs. search needs) (λ c κs. search needs) (λ c κs. search needs) (λ c κs. search needs) returns)
+unfolding readyContent
+ready-content-spec =
+    tie.close (tie.spec
+    (λ c κs. search needs) (λ c κs. search needs) (λ c κs. search needs) (λ c κs. search needs)
+    (λ c. (
+      rw (← c .before .before .before .at-word .ensures, ← c .before .before .word-at .ensures, ← c .before .load-word .ensures .0)
+          (c .ready-status .ensures .0),
+      search needs,
+    )))

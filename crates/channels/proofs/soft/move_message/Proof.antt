@@ -3,9 +3,9 @@ use Rattle.rules.specs.Channels.{moveMessage}
 use Rattle.channels.proofs.soft.move_message.Statement.{statement}
 use Rattle.channels.proofs.soft.move_message.Tie as tie
 
-returns : tie.Need-returns
-unfolding moveMessage
-returns c = (rw (← c .before .before .transfer .ensures .0, ← c .before .move-done .ensures .0) (c .run .ensures .0), search needs)
-
 pub move-message-spec : {M : Type 1} → statement M
-move-message-spec = tie.close (tie.spec (λ c. search needs) (λ c. search needs) (λ c. search needs) (λ c κs. search needs) (λ c κs. search needs) (λ c κs. search needs) returns)
+unfolding moveMessage
+move-message-spec =
+    tie.close (tie.spec
+    (λ c. search needs) (λ c. search needs) (λ c. search needs) (λ c κs. search needs) (λ c κs. search needs) (λ c κs. search needs)
+    (λ c. (rw (← c .before .before .transfer .ensures .0, ← c .before .move-done .ensures .0) (c .run .ensures .0), search needs)))

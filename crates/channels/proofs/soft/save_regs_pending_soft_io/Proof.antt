@@ -3,9 +3,14 @@ use Rattle.rules.specs.Channels.{saveRegsPendingSoftIO}
 use Rattle.channels.proofs.soft.save_regs_pending_soft_io.Statement.{statement}
 use Rattle.channels.proofs.soft.save_regs_pending_soft_io.Tie as tie
 
-returns : tie.Need-returns
-unfolding saveRegsPendingSoftIO
-returns c = (rw (← c .before .before .before .w-index-word .ensures .0, ← c .before .before .save-iptr .ensures .0) (c .w-index-word2 .ensures .0), search needs)
-
 pub save-regs-pending-soft-io-spec : {M : Type 1} → statement M
-save-regs-pending-soft-io-spec = tie.close (tie.spec (λ c. search needs) (λ c. search needs) (λ c. search needs) (λ c κs. search needs) (λ c κs. search needs) (λ c. search needs) (λ c κs. search needs) returns)
+unfolding saveRegsPendingSoftIO
+save-regs-pending-soft-io-spec =
+    tie.close (tie.spec
+    (λ c. search needs) (λ c. search needs) (λ c. search needs) (λ c κs. search needs) (λ c κs. search needs) (λ c. search needs)
+    (λ c κs. search needs)
+    (λ c. (
+      rw (← c .before .before .before .w-index-word .ensures .0, ← c .before .before .save-iptr .ensures .0)
+          (c .w-index-word2 .ensures .0),
+      search needs,
+    )))

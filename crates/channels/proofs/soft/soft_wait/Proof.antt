@@ -3,9 +3,9 @@ use Rattle.rules.specs.Channels.{softWait}
 use Rattle.channels.proofs.soft.soft_wait.Statement.{statement}
 use Rattle.channels.proofs.soft.soft_wait.Tie as tie
 
-returns : tie.Need-returns
-unfolding softWait
-returns c = (rw (← c .before .save-regs-pending-soft-io .ensures .0) (c .goto-snp .ensures .0), search needs)
-
 pub soft-wait-spec : {M : Type 1} → statement M
-soft-wait-spec = tie.close (tie.spec (λ c κs. search needs) (λ c κs. search needs) returns)
+unfolding softWait
+soft-wait-spec =
+    tie.close (tie.spec
+    (λ c κs. search needs) (λ c κs. search needs)
+    (λ c. (rw (← c .before .save-regs-pending-soft-io .ensures .0) (c .goto-snp .ensures .0), search needs)))

@@ -8,10 +8,6 @@ use borrow.Author.Needs.{needs}
 use Rattle.core_arith.proofs.long.ldiv.Statement.{statement}
 use Rattle.core_arith.proofs.long.ldiv.Tie as tie
 
-returns : tie.Need-returns
-unfolding ldiv
-returns c = rw (yes-le (c .before .if1 .taken)) (c .set-error-flag .ensures)
-
 cast-split-2 : tie.Need-cast-split-2
 cast-split-2 c =
     let s = c .before .before .before .before .args .s in
@@ -22,22 +18,15 @@ cast-split-4 c =
     let h : 0 < c .before .before .before .before .before .args .s .a = omega arith in
     omega (arith, mod-lt (c .before .before .double .result) h)
 
-returns-2 : tie.Need-returns-2
-unfolding ldiv
-returns-2 c = rw (no-le (c .before .before .before .before .if1 .left), ← c .before .before .before .double .ensures) (c .split .ensures)
-
 pub ldiv-spec : {M : Type 1} → statement M
+unfolding ldiv
 ldiv-spec =
-    tie.close
-    (tie.spec
+    tie.close (tie.spec
     (λ c κs. search needs)
-    returns
-    (λ c κs. search needs)
-    (λ c. search needs)
-    (λ c. search needs)
+    (λ c. rw (yes-le (c .before .if1 .taken)) (c .set-error-flag .ensures))
+    (λ c κs. search needs) (λ c. search needs) (λ c. search needs)
     cast-split-2
-    (λ c. search needs)
-    (λ c. search needs)
+    (λ c. search needs) (λ c. search needs)
     cast-split-4
     (λ c κs. search needs)
-    returns-2)
+    (λ c. rw (no-le (c .before .before .before .before .if1 .left), ← c .before .before .before .double .ensures) (c .split .ensures)))

@@ -14,19 +14,12 @@ add-v c =
     let s = c .before .before .before .args .s in
     omega (arith, product-fits (s .b) (s .a) (s .c) (search needs) (search needs) (search needs))
 
-returns : tie.Need-returns
-returns c = rw (c .split .ensures, c .before .high-word .ensures, c .before .before .low-word .ensures)
-
 pub lmul-spec : {M : Type 1} → statement M
 lmul-spec =
-    tie.close
-    (tie.spec
-    (λ c. search needs)
-    (λ c. search needs)
+    tie.close (tie.spec
+    (λ c. search needs) (λ c. search needs)
     mul-v
     (λ c. search needs)
     add-v
-    (λ c κs. search needs)
-    (λ c κs. search needs)
-    (λ c κs. search needs)
-    returns)
+    (λ c κs. search needs) (λ c κs. search needs) (λ c κs. search needs)
+    (λ c. rw (c .split .ensures, c .before .high-word .ensures, c .before .before .low-word .ensures)))

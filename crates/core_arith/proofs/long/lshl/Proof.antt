@@ -8,10 +8,6 @@ use borrow.Author.Needs.{needs}
 use Rattle.core_arith.proofs.long.lshl.Statement.{statement}
 use Rattle.core_arith.proofs.long.lshl.Tie as tie
 
-returns : tie.Need-returns
-unfolding lshl
-returns c = rw (yes-lt (c .before .if1 .taken)) (c .stopped .ensures)
-
 returns-2 : tie.Need-returns-2
 unfolding lshl
 returns-2 c =
@@ -27,19 +23,13 @@ returns-3 c =
     rw (no-lt (c .before .before .before .before .before .before .before .before .if1 .left), ← c .before .before .before .before .before .double .ensures, low-part x, high-part x, c .completed2 .ensures, c .before .split2 .ensures, c .before .before .before .low-word .ensures, c .before .before .high-word .ensures)
 
 pub lshl-spec : {M : Type 1} → statement M
+unfolding lshl
 lshl-spec =
-    tie.close
-    (tie.spec
+    tie.close (tie.spec
     (λ c κs. search needs)
-    returns
-    (λ c κs. search needs)
-    (λ c κs. search needs)
+    (λ c. rw (yes-lt (c .before .if1 .taken)) (c .stopped .ensures))
+    (λ c κs. search needs) (λ c κs. search needs)
     returns-2
-    (λ c κs. search needs)
-    (λ c. search needs)
-    (λ c. search needs)
-    (λ c κs. search needs)
-    (λ c κs. search needs)
-    (λ c κs. search needs)
+    (λ c κs. search needs) (λ c. search needs) (λ c. search needs) (λ c κs. search needs) (λ c κs. search needs) (λ c κs. search needs)
     (λ c κs. search needs)
     returns-3)

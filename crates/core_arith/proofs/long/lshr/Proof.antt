@@ -7,10 +7,6 @@ use borrow.Author.Needs.{needs}
 use Rattle.core_arith.proofs.long.lshr.Statement.{statement}
 use Rattle.core_arith.proofs.long.lshr.Tie as tie
 
-returns : tie.Need-returns
-unfolding lshr
-returns c = rw (yes-lt (c .before .if1 .taken)) (c .stopped .ensures)
-
 returns-2 : tie.Need-returns-2
 unfolding lshr
 returns-2 c =
@@ -18,24 +14,21 @@ returns-2 c =
     let e : double (s .c) (s .b) / 2 ^ s .a ≡ 0 = rw (c .before .before .if2 .taken) (omega arith) in
     rw (no-lt (c .before .before .before .before .if1 .left), e, c .completed .ensures, c .before .split .ensures)
 
-returns-3 : tie.Need-returns-3
-unfolding lshr
-returns-3 c = rw (no-lt (c .before .before .before .before .before .before .before .before .if1 .left), ← c .before .before .before .before .before .double .ensures, c .completed2 .ensures, c .before .split2 .ensures, c .before .before .before .high-word .ensures, c .before .before .low-word .ensures)
-
 pub lshr-spec : {M : Type 1} → statement M
+unfolding lshr
 lshr-spec =
-    tie.close
-    (tie.spec
+    tie.close (tie.spec
     (λ c κs. search needs)
-    returns
-    (λ c κs. search needs)
-    (λ c κs. search needs)
+    (λ c. rw (yes-lt (c .before .if1 .taken)) (c .stopped .ensures))
+    (λ c κs. search needs) (λ c κs. search needs)
     returns-2
+    (λ c κs. search needs) (λ c. search needs) (λ c. search needs) (λ c κs. search needs) (λ c κs. search needs) (λ c κs. search needs)
     (λ c κs. search needs)
-    (λ c. search needs)
-    (λ c. search needs)
-    (λ c κs. search needs)
-    (λ c κs. search needs)
-    (λ c κs. search needs)
-    (λ c κs. search needs)
-    returns-3)
+    (λ c. rw (
+      no-lt (c .before .before .before .before .before .before .before .before .if1 .left),
+      ← c .before .before .before .before .before .double .ensures,
+      c .completed2 .ensures,
+      c .before .split2 .ensures,
+      c .before .before .before .high-word .ensures,
+      c .before .before .low-word .ensures,
+    )))

@@ -16,9 +16,6 @@ Inv-loop v₀ t n₀ v n = (v ≡ v₀ * 2 ^ n) × (0 < v) × (2 ^ n ≤ v) × (
 abbrev μ-loop : tie.MeasureT-loop
 μ-loop v₀ t n₀ v n = 2 ^ 63 - v
 
-double-requires : tie.Need-double-requires Inv-loop μ-loop
-double-requires c κs = search needs
-
 returns : tie.Need-returns Inv-loop μ-loop
 unfolding norm
 returns c = rw (yes-eq (sym (c .before .double .ensures) ∙ c .if1 .taken))
@@ -40,15 +37,6 @@ loop-less c = omega arith
 loop-again : tie.Need-loop-again Inv-loop μ-loop
 loop-again c = rw (pow-add 2 (c .before .loop .n) 1) (omega arith)
 
-low-word-requires : tie.Need-low-word-requires Inv-loop μ-loop
-low-word-requires c κs = search needs
-
-high-word-requires : tie.Need-high-word-requires Inv-loop μ-loop
-high-word-requires c κs = search needs
-
-split-requires : tie.Need-split-requires Inv-loop μ-loop
-split-requires c κs = search needs
-
 returns-2 : tie.Need-returns-2 Inv-loop μ-loop
 unfolding norm
 returns-2 c =
@@ -61,18 +49,15 @@ returns-2 c =
 
 pub norm-spec : {M : Type 1} → statement M
 norm-spec =
-    tie.close
-    (tie.spec
+    tie.close (tie.spec
     Inv-loop
     μ-loop
-    double-requires
+    (λ c κs. search needs)
     returns
     loop-holds
     mul-v
     add-n
     loop-less
     loop-again
-    low-word-requires
-    high-word-requires
-    split-requires
+    (λ c κs. search needs) (λ c κs. search needs) (λ c κs. search needs)
     returns-2)

@@ -5,12 +5,6 @@ use borrow.Author.Needs.{needs}
 use Rattle.core_arith.proofs.signed.quotient.Statement.{statement}
 use Rattle.core_arith.proofs.signed.quotient.Tie as tie
 
-div-q : tie.Need-div-q
-div-q c = omega (arith, magnitude-some (c .before .before .args .a) (search needs) (c .before .before .pre))
-
-cast-q : tie.Need-cast-q
-cast-q c = omega (arith, div-le-self (c .before .magnitude .result) (c .magnitude2 .result))
-
 returns : tie.Need-returns
 returns c =
     let p = c .before .before .before .before .before .args in
@@ -33,12 +27,10 @@ returns-4 c =
 
 pub quotient-spec : {M : Type 1} → statement M
 quotient-spec =
-    tie.close
-    (tie.spec
-    (λ c κs. search needs)
-    (λ c κs. search needs)
-    div-q
-    cast-q
+    tie.close (tie.spec
+    (λ c κs. search needs) (λ c κs. search needs)
+    (λ c. omega (arith, magnitude-some (c .before .before .args .a) (search needs) (c .before .before .pre)))
+    (λ c. omega (arith, div-le-self (c .before .magnitude .result) (c .magnitude2 .result)))
     (λ c κs. search needs)
     returns
     (λ c κs. search needs)

@@ -5,12 +5,6 @@ use borrow.Author.Needs.{needs}
 use Rattle.core_arith.proofs.signed.remainder.Statement.{statement}
 use Rattle.core_arith.proofs.signed.remainder.Tie as tie
 
-rem-q : tie.Need-rem-q
-rem-q c = omega (arith, magnitude-some (c .before .before .args .a) (search needs) (c .before .before .pre))
-
-cast-q : tie.Need-cast-q
-cast-q c = omega (arith, mod-le (c .before .magnitude .result) (c .magnitude2 .result))
-
 returns : tie.Need-returns
 returns c =
     let p = c .before .before .before .before .args in
@@ -23,12 +17,10 @@ returns-2 c =
 
 pub remainder-spec : {M : Type 1} → statement M
 remainder-spec =
-    tie.close
-    (tie.spec
-    (λ c κs. search needs)
-    (λ c κs. search needs)
-    rem-q
-    cast-q
+    tie.close (tie.spec
+    (λ c κs. search needs) (λ c κs. search needs)
+    (λ c. omega (arith, magnitude-some (c .before .before .args .a) (search needs) (c .before .before .pre)))
+    (λ c. omega (arith, mod-le (c .before .magnitude .result) (c .magnitude2 .result)))
     (λ c κs. search needs)
     returns
     (λ c κs. search needs)

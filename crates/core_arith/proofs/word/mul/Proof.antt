@@ -5,35 +5,20 @@ use borrow.Author.Needs.{needs}
 use Rattle.core_arith.proofs.word.mul.Statement.{statement}
 use Rattle.core_arith.proofs.word.mul.Tie as tie
 
-mul-p : tie.Need-mul-p
-mul-p c = omega (arith, product-small (c .before .magnitude .result) (c .magnitude2 .result) (c .before .magnitude .ensures .1) (c .magnitude2 .ensures .1))
-
-checked-requires : tie.Need-checked-requires
-checked-requires c κs = omega (arith, product-small (c .before .before .before .before .before .magnitude .result) (c .before .before .before .before .magnitude2 .result) (c .before .before .before .before .before .magnitude .ensures .1) (c .before .before .before .before .magnitude2 .ensures .1))
-
 returns : tie.Need-returns
 returns c =
     let s = c .before .before .before .before .before .before .before .args .s in
     rw (mul-plus-plus (s .b) (s .a) (c .before .before .before .if1 .taken) (c .before .if2 .taken), ← c .before .before .before .before .before .before .magnitude .ensures .0, ← c .before .before .before .before .before .magnitude2 .ensures .0) (c .checked .ensures)
-
-checked-requires-2 : tie.Need-checked-requires-2
-checked-requires-2 c κs = omega (arith, product-small (c .before .before .before .before .before .magnitude .result) (c .before .before .before .before .magnitude2 .result) (c .before .before .before .before .before .magnitude .ensures .1) (c .before .before .before .before .magnitude2 .ensures .1))
 
 returns-2 : tie.Need-returns-2
 returns-2 c =
     let s = c .before .before .before .before .before .before .before .args .s in
     rw (mul-plus-minus (s .b) (s .a) (c .before .before .before .if1 .taken) (search needs) (c .before .if2 .left), ← c .before .before .before .before .before .before .magnitude .ensures .0, ← c .before .before .before .before .before .magnitude2 .ensures .0) (c .checked2 .ensures)
 
-checked-requires-3 : tie.Need-checked-requires-3
-checked-requires-3 c κs = omega (arith, product-small (c .before .before .before .before .before .magnitude .result) (c .before .before .before .before .magnitude2 .result) (c .before .before .before .before .before .magnitude .ensures .1) (c .before .before .before .before .magnitude2 .ensures .1))
-
 returns-3 : tie.Need-returns-3
 returns-3 c =
     let s = c .before .before .before .before .before .before .before .args .s in
     rw (mul-minus-plus (s .b) (s .a) (search needs) (c .before .before .before .if1 .left) (c .before .if3 .taken), ← c .before .before .before .before .before .before .magnitude .ensures .0, ← c .before .before .before .before .before .magnitude2 .ensures .0) (c .checked3 .ensures)
-
-checked-requires-4 : tie.Need-checked-requires-4
-checked-requires-4 c κs = omega (arith, product-small (c .before .before .before .before .before .magnitude .result) (c .before .before .before .before .magnitude2 .result) (c .before .before .before .before .before .magnitude .ensures .1) (c .before .before .before .before .magnitude2 .ensures .1))
 
 returns-4 : tie.Need-returns-4
 returns-4 c =
@@ -42,18 +27,38 @@ returns-4 c =
 
 pub mul-spec : {M : Type 1} → statement M
 mul-spec =
-    tie.close
-    (tie.spec
-    (λ c κs. search needs)
-    (λ c. search needs)
-    (λ c κs. search needs)
-    (λ c. search needs)
-    mul-p
-    checked-requires
+    tie.close (tie.spec
+    (λ c κs. search needs) (λ c. search needs) (λ c κs. search needs) (λ c. search needs)
+    (λ c. omega (
+      arith,
+      product-small (c .before .magnitude .result) (c .magnitude2 .result) (c .before .magnitude .ensures .1)
+          (c .magnitude2 .ensures .1),
+    ))
+    (λ c κs. omega (
+      arith,
+      product-small (c .before .before .before .before .before .magnitude .result)
+          (c .before .before .before .before .magnitude2 .result) (c .before .before .before .before .before .magnitude .ensures .1)
+          (c .before .before .before .before .magnitude2 .ensures .1),
+    ))
     returns
-    checked-requires-2
+    (λ c κs. omega (
+      arith,
+      product-small (c .before .before .before .before .before .magnitude .result)
+          (c .before .before .before .before .magnitude2 .result) (c .before .before .before .before .before .magnitude .ensures .1)
+          (c .before .before .before .before .magnitude2 .ensures .1),
+    ))
     returns-2
-    checked-requires-3
+    (λ c κs. omega (
+      arith,
+      product-small (c .before .before .before .before .before .magnitude .result)
+          (c .before .before .before .before .magnitude2 .result) (c .before .before .before .before .before .magnitude .ensures .1)
+          (c .before .before .before .before .magnitude2 .ensures .1),
+    ))
     returns-3
-    checked-requires-4
+    (λ c κs. omega (
+      arith,
+      product-small (c .before .before .before .before .before .magnitude .result)
+          (c .before .before .before .before .magnitude2 .result) (c .before .before .before .before .before .magnitude .ensures .1)
+          (c .before .before .before .before .magnitude2 .ensures .1),
+    ))
     returns-4)

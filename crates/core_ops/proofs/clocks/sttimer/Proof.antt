@@ -2,8 +2,5 @@ use borrow.Author.Needs.{needs}
 use Rattle.core_ops.proofs.clocks.sttimer.Statement.{statement}
 use Rattle.core_ops.proofs.clocks.sttimer.Tie as tie
 
-returns : tie.Need-returns
-returns c = rw (c .pop .ensures)
-
 pub sttimer-spec : {M : Type 1} → statement M
-sttimer-spec = tie.close (tie.spec (λ c κs. search needs) returns)
+sttimer-spec = tie.close (tie.spec (λ c κs. search needs) (λ c. rw (c .pop .ensures)))

@@ -4,15 +4,11 @@ use borrow.Author.Needs.{needs}
 use Rattle.core_ops.proofs.errors.ccnt1.Statement.{statement}
 use Rattle.core_ops.proofs.errors.ccnt1.Tie as tie
 
-returns : tie.Need-returns
-unfolding ccnt1
-returns c = rw (eq-eqb _ 0 (c .before .before .if1 .taken), c .error-if .ensures, c .before .pop .ensures)
-
-returns-2 : tie.Need-returns-2
-unfolding ccnt1
-returns-2 c = rw (ne-eqb _ 0 (c .before .before .before .if1 .left), c .error-if2 .ensures, c .before .pop2 .ensures)
-
 pub ccnt1-spec : {M : Type 1} → statement M
+unfolding ccnt1
 ccnt1-spec =
-    tie.close
-    (tie.spec (λ c κs. search needs) (λ c κs. search needs) returns (λ c κs. search needs) (λ c κs. search needs) returns-2)
+    tie.close (tie.spec
+    (λ c κs. search needs) (λ c κs. search needs)
+    (λ c. rw (eq-eqb _ 0 (c .before .before .if1 .taken), c .error-if .ensures, c .before .pop .ensures))
+    (λ c κs. search needs) (λ c κs. search needs)
+    (λ c. rw (ne-eqb _ 0 (c .before .before .before .if1 .left), c .error-if2 .ensures, c .before .pop2 .ensures)))

@@ -2,8 +2,5 @@ use borrow.Author.Needs.{needs}
 use Rattle.core_ops.proofs.logic.wcnt.Statement.{statement}
 use Rattle.core_ops.proofs.logic.wcnt.Tie as tie
 
-returns : tie.Need-returns
-returns c = rw (c .quarter .ensures)
-
 pub wcnt-spec : {M : Type 1} → statement M
-wcnt-spec = tie.close (tie.spec (λ c κs. search needs) returns)
+wcnt-spec = tie.close (tie.spec (λ c κs. search needs) (λ c. rw (c .quarter .ensures)))

@@ -4,13 +4,10 @@ use borrow.Author.Needs.{needs}
 use Rattle.core_ops.proofs.stack.eqc.Statement.{statement}
 use Rattle.core_ops.proofs.stack.eqc.Tie as tie
 
-returns : tie.Need-returns
-unfolding eqc
-returns c = rw (yes-eq (c .before .if1 .taken)) (c .with-a .ensures)
-
-returns-2 : tie.Need-returns-2
-unfolding eqc
-returns-2 c = rw (no-eq (c .before .if1 .left)) (c .with-a2 .ensures)
-
 pub eqc-spec : {M : Type 1} → statement M
-eqc-spec = tie.close (tie.spec (λ c κs. search needs) (λ c κs. search needs) returns returns-2)
+unfolding eqc
+eqc-spec =
+    tie.close (tie.spec
+    (λ c κs. search needs) (λ c κs. search needs)
+    (λ c. rw (yes-eq (c .before .if1 .taken)) (c .with-a .ensures))
+    (λ c. rw (no-eq (c .before .if1 .left)) (c .with-a2 .ensures)))

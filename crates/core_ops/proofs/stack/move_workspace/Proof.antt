@@ -2,8 +2,5 @@ use borrow.Author.Needs.{needs}
 use Rattle.core_ops.proofs.stack.move_workspace.Statement.{statement}
 use Rattle.core_ops.proofs.stack.move_workspace.Tie as tie
 
-returns : tie.Need-returns
-returns c = rw (c .priority-of .ensures .0)
-
 pub move-workspace-spec : {M : Type 1} → statement M
-move-workspace-spec = tie.close (tie.spec (λ c κs. search needs) returns)
+move-workspace-spec = tie.close (tie.spec (λ c κs. search needs) (λ c. rw (c .priority-of .ensures .0)))

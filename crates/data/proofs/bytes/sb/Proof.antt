@@ -3,11 +3,9 @@ use Rattle.rules.specs.Data.{sb}
 use Rattle.data.proofs.bytes.sb.Statement.{statement}
 use Rattle.data.proofs.bytes.sb.Tie as tie
 
-returns : tie.Need-returns
-unfolding sb
-returns c = (rw (← c .before .store-byte .ensures .0) (c .put .ensures .0), search needs)
-
 pub sb-spec : {M : Type 1} → statement M
+unfolding sb
 sb-spec =
-    tie.close (tie.spec (λ c. search needs) (λ c. search needs) (λ c. search needs) (λ c κs. search needs)
-    (λ c κs. search needs) returns)
+    tie.close (tie.spec
+    (λ c. search needs) (λ c. search needs) (λ c. search needs) (λ c κs. search needs) (λ c κs. search needs)
+    (λ c. (rw (← c .before .store-byte .ensures .0) (c .put .ensures .0), search needs)))

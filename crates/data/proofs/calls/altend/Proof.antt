@@ -3,14 +3,13 @@ use Rattle.rules.specs.Data.{altend}
 use Rattle.data.proofs.calls.altend.Statement.{statement}
 use Rattle.data.proofs.calls.altend.Tie as tie
 
-returns : tie.Need-returns
-unfolding altend
-returns c = (
-  rw (← c .before .before .before .at-word .ensures, ← c .before .before .word-at .ensures, ← c .before .load-word .ensures .0)
-      (c .jump-by .ensures .0),
-  search needs,
-)
-
 pub altend-spec : {M : Type 1} → statement M
+unfolding altend
 altend-spec =
-    tie.close (tie.spec (λ c. search needs) (λ c κs. search needs) (λ c κs. search needs) (λ c κs. search needs) (λ c κs. search needs) returns)
+    tie.close (tie.spec
+    (λ c. search needs) (λ c κs. search needs) (λ c κs. search needs) (λ c κs. search needs) (λ c κs. search needs)
+    (λ c. (
+      rw (← c .before .before .before .at-word .ensures, ← c .before .before .word-at .ensures, ← c .before .load-word .ensures .0)
+          (c .jump-by .ensures .0),
+      search needs,
+    )))

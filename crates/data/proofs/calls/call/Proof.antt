@@ -3,9 +3,9 @@ use Rattle.rules.specs.Data.{entered, call}
 use Rattle.data.proofs.calls.call.Statement.{statement}
 use Rattle.data.proofs.calls.call.Tie as tie
 
-returns : tie.Need-returns
-unfolding call
-returns c = (rw (← c .before .call-frame .ensures .0) (c .entered .ensures .0), search needs)
-
 pub call-spec : {M : Type 1} → statement M
-call-spec = tie.close (tie.spec (λ c κs. search needs) (λ c κs. search needs) returns)
+unfolding call
+call-spec =
+    tie.close (tie.spec
+    (λ c κs. search needs) (λ c κs. search needs)
+    (λ c. (rw (← c .before .call-frame .ensures .0) (c .entered .ensures .0), search needs)))

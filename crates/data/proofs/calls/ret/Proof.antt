@@ -3,9 +3,9 @@ use Rattle.rules.specs.Data.{adjusted, ret}
 use Rattle.data.proofs.calls.ret.Statement.{statement}
 use Rattle.data.proofs.calls.ret.Tie as tie
 
-returns : tie.Need-returns
-unfolding ret
-returns c = (rw (← c .before .r-index-word .ensures .0) (c .adjusted .ensures .0), search needs)
-
 pub ret-spec : {M : Type 1} → statement M
-ret-spec = tie.close (tie.spec (λ c. search needs) (λ c κs. search needs) (λ c κs. search needs) returns)
+unfolding ret
+ret-spec =
+    tie.close (tie.spec
+    (λ c. search needs) (λ c κs. search needs) (λ c κs. search needs)
+    (λ c. (rw (← c .before .r-index-word .ensures .0) (c .adjusted .ensures .0), search needs)))

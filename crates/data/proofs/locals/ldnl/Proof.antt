@@ -3,9 +3,9 @@ use Rattle.rules.specs.Data.{ldnl}
 use Rattle.data.proofs.locals.ldnl.Statement.{statement}
 use Rattle.data.proofs.locals.ldnl.Tie as tie
 
-returns : tie.Need-returns
-unfolding ldnl
-returns c = (c .r-index-word .ensures .0, search needs)
-
 pub ldnl-spec : {M : Type 1} → statement M
-ldnl-spec = tie.close (tie.spec (λ c. search needs) (λ c. search needs) (λ c κs. search needs) returns)
+unfolding ldnl
+ldnl-spec =
+    tie.close (tie.spec
+    (λ c. search needs) (λ c. search needs) (λ c κs. search needs)
+    (λ c. (c .r-index-word .ensures .0, search needs)))

@@ -3,11 +3,9 @@ use Rattle.rules.specs.Data.{popped, stl}
 use Rattle.data.proofs.locals.stl.Statement.{statement}
 use Rattle.data.proofs.locals.stl.Tie as tie
 
-returns : tie.Need-returns
-unfolding stl
-returns c = (rw (← c .before .w-index-word .ensures .0) (c .popped .ensures .0), search needs)
-
 pub stl-spec : {M : Type 1} → statement M
+unfolding stl
 stl-spec =
-    tie.close (tie.spec (λ c. search needs) (λ c. search needs) (λ c. search needs) (λ c κs. search needs)
-    (λ c κs. search needs) returns)
+    tie.close (tie.spec
+    (λ c. search needs) (λ c. search needs) (λ c. search needs) (λ c κs. search needs) (λ c κs. search needs)
+    (λ c. (rw (← c .before .w-index-word .ensures .0) (c .popped .ensures .0), search needs)))

@@ -3,11 +3,9 @@ use Rattle.rules.specs.Data.{stnl}
 use Rattle.data.proofs.locals.stnl.Statement.{statement}
 use Rattle.data.proofs.locals.stnl.Tie as tie
 
-returns : tie.Need-returns
-unfolding stnl
-returns c = (rw (← c .before .w-index-word .ensures .0) (c .put .ensures .0), search needs)
-
 pub stnl-spec : {M : Type 1} → statement M
+unfolding stnl
 stnl-spec =
-    tie.close (tie.spec (λ c. search needs) (λ c. search needs) (λ c. search needs)
-    (λ c. search needs) (λ c κs. search needs) (λ c κs. search needs) returns)
+    tie.close (tie.spec
+    (λ c. search needs) (λ c. search needs) (λ c. search needs) (λ c. search needs) (λ c κs. search needs) (λ c κs. search needs)
+    (λ c. (rw (← c .before .w-index-word .ensures .0) (c .put .ensures .0), search needs)))

@@ -3,15 +3,14 @@ use Rattle.rules.specs.Data.{popped, saveQueue}
 use Rattle.data.proofs.queue_words.save_queue.Statement.{statement}
 use Rattle.data.proofs.queue_words.save_queue.Tie as tie
 
-returns : tie.Need-returns
-unfolding saveQueue
-returns c = (
-  rw (← c .before .before .before .w-index-word .ensures .0, ← c .before .w-index-word2 .ensures .0) (c .popped .ensures .0),
-  search needs,
-)
-
 pub save-queue-spec : {M : Type 1} → statement M
+unfolding saveQueue
 save-queue-spec =
-    tie.close (tie.spec (λ c. search needs) (λ c. search needs) (λ c. search needs) (λ c. search needs) (λ c. search needs) (λ c. search needs) (λ c. search needs) (λ c. search needs)
-    (λ c. search needs) (λ c κs. search needs) (λ c. search needs) (λ c κs. search needs)
-    (λ c κs. search needs) returns)
+    tie.close (tie.spec
+    (λ c. search needs) (λ c. search needs) (λ c. search needs) (λ c. search needs) (λ c. search needs) (λ c. search needs)
+    (λ c. search needs) (λ c. search needs) (λ c. search needs) (λ c κs. search needs) (λ c. search needs) (λ c κs. search needs)
+    (λ c κs. search needs)
+    (λ c. (
+      rw (← c .before .before .before .w-index-word .ensures .0, ← c .before .w-index-word2 .ensures .0) (c .popped .ensures .0),
+      search needs,
+    )))

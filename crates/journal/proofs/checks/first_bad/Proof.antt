@@ -5,9 +5,6 @@ use borrow.Author.Needs.{needs}
 use Rattle.journal.proofs.checks.first_bad.Statement.{statement}
 use Rattle.journal.proofs.checks.first_bad.Tie as tie
 
-returns : tie.Need-returns
-returns c = bad-size _ _ _ _ _ (sym (c .before .size-bad .ensures) ∙ c .if1 .taken)
-
 returns-2 : tie.Need-returns-2
 returns-2 c =
     let i = c .before in
@@ -27,4 +24,10 @@ returns-4 c =
 
 pub first-bad-spec : {M : Type 1} → statement M
 first-bad-spec =
-    tie.close (tie.spec (λ c κs. search needs) returns returns-2 (λ c κs. search needs) returns-3 returns-4)
+    tie.close (tie.spec
+    (λ c κs. search needs)
+    (λ c. bad-size _ _ _ _ _ (sym (c .before .size-bad .ensures) ∙ c .if1 .taken))
+    returns-2
+    (λ c κs. search needs)
+    returns-3
+    returns-4)

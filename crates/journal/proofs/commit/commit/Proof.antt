@@ -20,7 +20,7 @@ good c = let f = bounds-good _ _ _ (c .pre .4) in (f .0, f .1, c .pre .3, c .pre
 is-full-requires : tie.Need-is-full-requires
 is-full-requires c κs =
     let S = c .before .before .before in
-    (good S .0, omega (arith, good S, c .list-words .ensures .outlined))
+    (good S .0, omega (arith, good S, c .outline-of .ensures .outlined))
 
 returns : tie.Need-returns
 returns c =
@@ -28,8 +28,8 @@ returns c =
     let f = i .before in
     let v = f .before in
     let a = v .before .before .before .args in
-    let u : length (a .journal .now) < a .m .used + recordLength (v .list-words .result .count) = ltb-true _ _ (sym (f .is-full .ensures) ∙ i .if1 .taken) in
-    let h = commit-full (a .m) (a .mem .now) (a .journal .now) (a .byte) (a .p .regs) (touched (length (a .mem .now)) (view (a .p) .stored)) (stores (a .mem .now) (view (a .p) .stored)) (omega (arith, u, v .list-words .ensures .counts)) in
+    let u : length (a .journal .now) < a .m .used + recordLength (v .outline-of .result .count) = ltb-true _ _ (sym (f .is-full .ensures) ∙ i .if1 .taken) in
+    let h = commit-full (a .m) (a .mem .now) (a .journal .now) (a .byte) (a .p .regs) (touched (length (a .mem .now)) (view (a .p) .stored)) (stores (a .mem .now) (view (a .p) .stored)) (omega (arith, u, v .outline-of .ensures .counts)) in
     refusal-is (c .refusal .result) (a .m) (a .mem .now) (a .journal .now) JournalFull (c .refusal .ensures) ∙ rw number-full h
 
 append-requires : tie.Need-append-requires
@@ -37,10 +37,7 @@ append-requires c κs =
     let i = c .before .before .before in
     let f = i .before in
     let v = f .before in
-    (v .list-words .ensures .outlined, good (v .before .before .before) .3, ltb-false _ _ (sym (f .is-full .ensures) ∙ i .if1 .left))
-
-add-t13 : tie.Need-add-t13
-add-t13 c = omega (arith, good (c .before .before .before .before .before .before .before .before .before .before .before .before .before .before .before .before))
+    (v .outline-of .ensures .outlined, good (v .before .before .before) .3, ltb-false _ _ (sym (f .is-full .ensures) ∙ i .if1 .left))
 
 add-t25 : tie.Need-add-t25
 add-t25 c =
@@ -48,7 +45,7 @@ add-t25 c =
     let f = i .before in
     let v = f .before in
     let S = v .before .before .before in
-    let u : S .args .m .used + recordLength (v .list-words .result .count) ≤ length (S .args .journal .now) = ltb-false _ _ (sym (f .is-full .ensures) ∙ i .if1 .left) in
+    let u : S .args .m .used + recordLength (v .outline-of .result .count) ≤ length (S .args .journal .now) = ltb-false _ _ (sym (f .is-full .ensures) ∙ i .if1 .left) in
     omega (arith, good S, u)
 
 returns-2 : tie.Need-returns-2
@@ -59,22 +56,22 @@ returns-2 c =
     let f = i .before in
     let v = f .before in
     let a = v .before .before .before .args in
-    commit-done (a .m) (a .mem .now) (a .journal .now) (a .byte) (a .p .regs) (touched (length (a .mem .now)) (view (a .p) .stored)) (stores (a .mem .now) (view (a .p) .stored)) (v .list-words .result .count) _ _ (sym (v .list-words .ensures .counts)) (ltb-false _ _ (sym (f .is-full .ensures) ∙ i .if1 .left)) (w .make .ensures) (rw (v .list-words .ensures .touches) at (g .append .ensures))
+    commit-done (a .m) (a .mem .now) (a .journal .now) (a .byte) (a .p .regs) (touched (length (a .mem .now)) (view (a .p) .stored)) (stores (a .mem .now) (view (a .p) .stored)) (v .outline-of .result .count) _ _ (sym (v .outline-of .ensures .counts)) (ltb-false _ _ (sym (f .is-full .ensures) ∙ i .if1 .left)) (w .make .ensures) (rw (v .outline-of .ensures .touches) at (g .append .ensures))
 
 pub commit-spec : {M : Type 1} → statement M
 commit-spec =
-    tie.close
-    (tie.spec
+    tie.close (tie.spec
     (λ c κs. search needs)
     is-full-requires
     (λ c κs. search needs)
     returns
     append-requires
     (λ c κs. search needs)
-    add-t13
-    (λ c. search needs)
-    (λ c. search needs)
+    (λ c. omega (
+      arith,
+      good (c .before .before .before .before .before .before .before .before .before .before .before .before .before .before .before .before),
+    ))
+    (λ c. search needs) (λ c. search needs)
     add-t25
-    (λ c. search needs)
-    (λ c. search needs)
+    (λ c. search needs) (λ c. search needs)
     returns-2)

@@ -14,33 +14,12 @@ use Rattle.journal.proofs.commit.undo_last.Tie as tie
 good : (c : tie.Start) → (c .args .m .used ≤ length (c .args .journal .now)) × (recordLength 0 * c .args .m .depth ≤ c .args .m .used) × (0 < c .args .m .depth)
 good c = let f = bounds-good _ _ _ (c .pre .0) in (f .0, f .1, c .pre .1)
 
-sub-last : tie.Need-sub-last
-sub-last c = omega (arith, good (c .before .before))
-
-mul-pairs : tie.Need-mul-pairs
-mul-pairs c = omega (arith, good (c .before .before))
-
-shared-slice-read-pairs : tie.Need-shared-slice-read-pairs
-shared-slice-read-pairs c = omega (arith, good (c .before .before .before))
-
-cast-pairs : tie.Need-cast-pairs
-cast-pairs c = omega (arith, c .shared-slice-known2 .given (c .before .before .before .args .m .used - 1))
-
-mul-size : tie.Need-mul-size
-mul-size c = omega (arith, c .shared-slice-known2 .given (c .before .before .before .args .m .used - 1))
-
-add-size : tie.Need-add-size
-add-size c = omega (arith, c .shared-slice-known2 .given (c .before .before .before .args .m .used - 1))
-
 returns : tie.Need-returns
 returns c =
     let i = c .before in
     let a = i .before .before .before .before .args in
     let h = undo-short (a .m) (a .mem .now) (a .journal .now) _ refl (i .if1 .taken) in
     refusal-is (c .refusal .result) (a .m) (a .mem .now) (a .journal .now) JournalBad (c .refusal .ensures) ∙ rw number-bad h
-
-strays-requires : tie.Need-strays-requires
-strays-requires c κs = omega (arith, good (c .before .before .before .before))
 
 returns-2 : tie.Need-returns-2
 returns-2 c =
@@ -57,9 +36,6 @@ write-back-requires c κs =
     let s = i .before in
     (omega (arith, good (s .before .before .before .before .before)), sym (s .strays .ensures) ∙ i .if2 .left)
 
-get-regs-requires : tie.Need-get-regs-requires
-get-regs-requires c κs = omega (arith, good (c .before .before .before .before .before .before .before .before .before .before))
-
 returns-3 : tie.Need-returns-3
 returns-3 c =
     let w = c .before .before .before in
@@ -71,22 +47,20 @@ returns-3 c =
 
 pub undo-last-spec : {M : Type 1} → statement M
 undo-last-spec =
-    tie.close
-    (tie.spec
-    sub-last
-    mul-pairs
-    shared-slice-read-pairs
-    cast-pairs
-    mul-size
-    add-size
+    tie.close (tie.spec
+    (λ c. omega (arith, good (c .before .before)))
+    (λ c. omega (arith, good (c .before .before)))
+    (λ c. omega (arith, good (c .before .before .before)))
+    (λ c. omega (arith, c .shared-slice-known2 .given (c .before .before .before .args .m .used - 1)))
+    (λ c. omega (arith, c .shared-slice-known2 .given (c .before .before .before .args .m .used - 1)))
+    (λ c. omega (arith, c .shared-slice-known2 .given (c .before .before .before .args .m .used - 1)))
     (λ c κs. search needs)
     returns
-    strays-requires
+    (λ c κs. omega (arith, good (c .before .before .before .before)))
     (λ c κs. search needs)
     returns-2
     write-back-requires
     (λ c. search needs)
-    get-regs-requires
-    (λ c. search needs)
-    (λ c. search needs)
+    (λ c κs. omega (arith, good (c .before .before .before .before .before .before .before .before .before .before)))
+    (λ c. search needs) (λ c. search needs)
     returns-3)

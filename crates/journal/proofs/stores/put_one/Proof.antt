@@ -5,8 +5,8 @@ use borrow.Author.Needs.{needs}
 use Rattle.journal.proofs.stores.put_one.Statement.{statement}
 use Rattle.journal.proofs.stores.put_one.Tie as tie
 
-returns-2 : tie.Need-returns-2
-returns-2 c = sym (set-out _ _ _ (search needs))
-
 pub put-one-spec : {M : Type 1} → statement M
-put-one-spec = tie.close (tie.spec (λ c. search needs) (λ c. search needs) (λ c. search needs) (λ c. search needs) returns-2)
+put-one-spec =
+    tie.close (tie.spec
+    (λ c. search needs) (λ c. search needs) (λ c. search needs) (λ c. search needs)
+    (λ c. sym (set-out _ _ _ (search needs))))

@@ -28,27 +28,6 @@ abbrev μ-loop : tie.MeasureT-loop
 loop-holds : tie.Need-loop-holds Inv-loop μ-loop
 loop-holds c = record { kn = search needs; small = search needs; lx = search needs; lv = search needs; len = refl; left = refl }
 
-mul-put-one : tie.Need-mul-put-one Inv-loop μ-loop
-mul-put-one c = search needs
-
-array-read-put-one : tie.Need-array-read-put-one Inv-loop μ-loop
-array-read-put-one c = search needs
-
-mul-put-one-2 : tie.Need-mul-put-one-2 Inv-loop μ-loop
-mul-put-one-2 c = search needs
-
-array-read-put-one-2 : tie.Need-array-read-put-one-2 Inv-loop μ-loop
-array-read-put-one-2 c = search needs
-
-put-one-requires : tie.Need-put-one-requires Inv-loop μ-loop
-put-one-requires c κs = search needs
-
-add-k : tie.Need-add-k Inv-loop μ-loop
-add-k c = search needs
-
-loop-less : tie.Need-loop-less Inv-loop μ-loop
-loop-less c = search needs
-
 loop-again : tie.Need-loop-again Inv-loop μ-loop
 loop-again c =
     let P = c .before .before in
@@ -77,18 +56,12 @@ returns c =
 
 pub put-singles-spec : {M : Type 1} → statement M
 put-singles-spec =
-    tie.close
-    (tie.spec
+    tie.close (tie.spec
     Inv-loop
     μ-loop
     loop-holds
-    mul-put-one
-    array-read-put-one
-    mul-put-one-2
-    array-read-put-one-2
-    put-one-requires
-    add-k
-    loop-less
+    (λ c. search needs) (λ c. search needs) (λ c. search needs) (λ c. search needs) (λ c κs. search needs) (λ c. search needs)
+    (λ c. search needs)
     loop-again
     same-length
     returns)

@@ -27,27 +27,6 @@ abbrev μ-loop : tie.MeasureT-loop
 loop-holds : tie.Need-loop-holds Inv-loop μ-loop
 loop-holds c = record { kn = search needs; long = search needs; here = search needs; rest = sets-all _ (take registers (drop (c .args .at) (c .args .journal .now))) (sym (part-length (c .args .journal .now) (c .args .at) registers (search needs))) }
 
-mul-regs : tie.Need-mul-regs Inv-loop μ-loop
-mul-regs c = search needs
-
-shared-slice-read-regs : tie.Need-shared-slice-read-regs Inv-loop μ-loop
-shared-slice-read-regs c = search needs
-
-mul-regs-2 : tie.Need-mul-regs-2 Inv-loop μ-loop
-mul-regs-2 c = search needs
-
-array-write-regs : tie.Need-array-write-regs Inv-loop μ-loop
-array-write-regs c = search needs
-
-add-w : tie.Need-add-w Inv-loop μ-loop
-add-w c = search needs
-
-add-k : tie.Need-add-k Inv-loop μ-loop
-add-k c = search needs
-
-loop-less : tie.Need-loop-less Inv-loop μ-loop
-loop-less c = search needs
-
 loop-again : tie.Need-loop-again Inv-loop μ-loop
 loop-again c =
     let L = c .before .before in
@@ -71,17 +50,11 @@ returns c =
 
 pub get-regs-spec : {M : Type 1} → statement M
 get-regs-spec =
-    tie.close
-    (tie.spec
+    tie.close (tie.spec
     Inv-loop
     μ-loop
     loop-holds
-    mul-regs
-    shared-slice-read-regs
-    mul-regs-2
-    array-write-regs
-    add-w
-    add-k
-    loop-less
+    (λ c. search needs) (λ c. search needs) (λ c. search needs) (λ c. search needs) (λ c. search needs) (λ c. search needs)
+    (λ c. search needs)
     loop-again
     returns)

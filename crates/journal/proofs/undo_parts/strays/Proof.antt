@@ -23,12 +23,6 @@ abbrev μ-loop : tie.MeasureT-loop
 loop-holds : tie.Need-loop-holds Inv-loop μ-loop
 loop-holds c = record { room = search needs; rest = refl }
 
-mul-i : tie.Need-mul-i Inv-loop μ-loop
-mul-i c = search needs
-
-shared-slice-read-i : tie.Need-shared-slice-read-i Inv-loop μ-loop
-shared-slice-read-i c = search needs
-
 cast-i : tie.Need-cast-i Inv-loop μ-loop
 cast-i c = omega (arith, c .shared-slice-known .given (c .before .before .loop .w))
 
@@ -37,15 +31,6 @@ returns c =
     let L = c .before .before .before in
     let a = L .before .args in
     sym (strays-here (a .journal .now) (L .loop .w) (L .loop .left) (a .size) (c .before .before .loop-test .taken) (c .if1 .taken)) ∙ L .loop .inv .rest
-
-add-w : tie.Need-add-w Inv-loop μ-loop
-add-w c = search needs
-
-sub-left : tie.Need-sub-left Inv-loop μ-loop
-sub-left c = search needs
-
-loop-less : tie.Need-loop-less Inv-loop μ-loop
-loop-less c = search needs
 
 loop-again : tie.Need-loop-again Inv-loop μ-loop
 loop-again c =
@@ -64,17 +49,13 @@ returns-2 c =
 
 pub strays-spec : {M : Type 1} → statement M
 strays-spec =
-    tie.close
-    (tie.spec
+    tie.close (tie.spec
     Inv-loop
     μ-loop
     loop-holds
-    mul-i
-    shared-slice-read-i
+    (λ c. search needs) (λ c. search needs)
     cast-i
     returns
-    add-w
-    sub-left
-    loop-less
+    (λ c. search needs) (λ c. search needs) (λ c. search needs)
     loop-again
     returns-2)

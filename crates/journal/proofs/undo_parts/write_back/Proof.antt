@@ -31,38 +31,14 @@ at-w c =
 loop-holds : tie.Need-loop-holds Inv-loop μ-loop
 loop-holds c = record { room = search needs; len = refl; ok = c .pre .1; rest = refl }
 
-mul-i : tie.Need-mul-i Inv-loop μ-loop
-mul-i c = search needs
-
-shared-slice-read-i : tie.Need-shared-slice-read-i Inv-loop μ-loop
-shared-slice-read-i c = search needs
-
 cast-i : tie.Need-cast-i Inv-loop μ-loop
 cast-i c = omega (arith, at-w (c .before))
-
-add-v : tie.Need-add-v Inv-loop μ-loop
-add-v c = search needs
-
-mul-mem : tie.Need-mul-mem Inv-loop μ-loop
-mul-mem c = search needs
-
-shared-slice-read-mem : tie.Need-shared-slice-read-mem Inv-loop μ-loop
-shared-slice-read-mem c = search needs
 
 mul-mem-2 : tie.Need-mul-mem-2 Inv-loop μ-loop
 mul-mem-2 c = omega (arith, at-w (c .before .before))
 
 slice-write-mem : tie.Need-slice-write-mem Inv-loop μ-loop
 slice-write-mem c = omega (arith, at-w (c .before .before))
-
-add-w : tie.Need-add-w Inv-loop μ-loop
-add-w c = search needs
-
-sub-left : tie.Need-sub-left Inv-loop μ-loop
-sub-left c = search needs
-
-loop-less : tie.Need-loop-less Inv-loop μ-loop
-loop-less c = search needs
 
 loop-again : tie.Need-loop-again Inv-loop μ-loop
 loop-again c =
@@ -87,22 +63,16 @@ returns c =
 
 pub write-back-spec : {M : Type 1} → statement M
 write-back-spec =
-    tie.close
-    (tie.spec
+    tie.close (tie.spec
     Inv-loop
     μ-loop
     loop-holds
-    mul-i
-    shared-slice-read-i
+    (λ c. search needs) (λ c. search needs)
     cast-i
-    add-v
-    mul-mem
-    shared-slice-read-mem
+    (λ c. search needs) (λ c. search needs) (λ c. search needs)
     mul-mem-2
     slice-write-mem
-    add-w
-    sub-left
-    loop-less
+    (λ c. search needs) (λ c. search needs) (λ c. search needs)
     loop-again
     same-length
     returns)

@@ -3,11 +3,5 @@ use Rattle.journal_record.proofs.JournalBounds.{bounds-long, bounds-dee
 use Rattle.journal_record.proofs.bounds.bounds_bad.Statement.{statement}
 use Rattle.journal_record.proofs.bounds.bounds_bad.Tie as tie
 
-returns : tie.Need-returns
-returns c = bounds-long _ _ _ (c .if1 .taken)
-
-returns-2 : tie.Need-returns-2
-returns-2 c = bounds-deep _ _ _ (c .if1 .left)
-
 pub bounds-bad-spec : {M : Type 1} → statement M
-bounds-bad-spec = tie.close (tie.spec returns returns-2)
+bounds-bad-spec = tie.close (tie.spec (λ c. bounds-long _ _ _ (c .if1 .taken)) (λ c. bounds-deep _ _ _ (c .if1 .left)))

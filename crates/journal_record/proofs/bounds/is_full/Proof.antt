@@ -4,8 +4,8 @@ use borrow.Author.Needs.{needs}
 use Rattle.journal_record.proofs.bounds.is_full.Statement.{statement}
 use Rattle.journal_record.proofs.bounds.is_full.Tie as tie
 
-returns : tie.Need-returns
-returns c = full (c .args .size) (c .args .used) (c .args .n) (c .pre .0)
-
 pub is-full-spec : {M : Type 1} → statement M
-is-full-spec = tie.close (tie.spec (λ c. search needs) (λ c. search needs) (λ c. search needs) returns)
+is-full-spec =
+    tie.close (tie.spec
+    (λ c. search needs) (λ c. search needs) (λ c. search needs)
+    (λ c. full (c .args .size) (c .args .used) (c .args .n) (c .pre .0)))

@@ -27,41 +27,8 @@ abbrev μ-loop : tie.MeasureT-loop
 loop-holds : tie.Need-loop-holds Inv-loop μ-loop
 loop-holds c = record { len = refl; inside = search needs; small = search needs; room = search needs; rest = refl }
 
-cast-journal : tie.Need-cast-journal Inv-loop μ-loop
-cast-journal c = search needs
-
-mul-journal : tie.Need-mul-journal Inv-loop μ-loop
-mul-journal c = search needs
-
-slice-write-journal : tie.Need-slice-write-journal Inv-loop μ-loop
-slice-write-journal c = search needs
-
-add-w : tie.Need-add-w Inv-loop μ-loop
-add-w c = search needs
-
-mul-journal-2 : tie.Need-mul-journal-2 Inv-loop μ-loop
-mul-journal-2 c = search needs
-
-shared-slice-read-journal : tie.Need-shared-slice-read-journal Inv-loop μ-loop
-shared-slice-read-journal c = search needs
-
-mul-journal-3 : tie.Need-mul-journal-3 Inv-loop μ-loop
-mul-journal-3 c = search needs
-
 slice-write-journal-2 : tie.Need-slice-write-journal-2 Inv-loop μ-loop
 slice-write-journal-2 c = simp length-set (omega arith)
-
-add-w-2 : tie.Need-add-w-2 Inv-loop μ-loop
-add-w-2 c = search needs
-
-add-i : tie.Need-add-i Inv-loop μ-loop
-add-i c = search needs
-
-sub-left : tie.Need-sub-left Inv-loop μ-loop
-sub-left c = search needs
-
-loop-less : tie.Need-loop-less Inv-loop μ-loop
-loop-less c = search needs
 
 loop-again : tie.Need-loop-again Inv-loop μ-loop
 loop-again c =
@@ -88,23 +55,14 @@ returns c =
 
 pub put-range-pairs-spec : {M : Type 1} → statement M
 put-range-pairs-spec =
-    tie.close
-    (tie.spec
+    tie.close (tie.spec
     Inv-loop
     μ-loop
     loop-holds
-    cast-journal
-    mul-journal
-    slice-write-journal
-    add-w
-    mul-journal-2
-    shared-slice-read-journal
-    mul-journal-3
+    (λ c. search needs) (λ c. search needs) (λ c. search needs) (λ c. search needs) (λ c. search needs) (λ c. search needs)
+    (λ c. search needs)
     slice-write-journal-2
-    add-w-2
-    add-i
-    sub-left
-    loop-less
+    (λ c. search needs) (λ c. search needs) (λ c. search needs) (λ c. search needs)
     loop-again
     same-length
     returns)

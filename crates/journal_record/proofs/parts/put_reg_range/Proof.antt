@@ -30,27 +30,6 @@ abbrev μ-loop : tie.MeasureT-loop
 loop-holds : tie.Need-loop-holds Inv-loop μ-loop
 loop-holds c = record { fk = search needs; kn = search needs; small = search needs; long = search needs; len = refl; room = search needs; here = omega arith; left = refl }
 
-mul-journal : tie.Need-mul-journal Inv-loop μ-loop
-mul-journal c = search needs
-
-array-read-journal : tie.Need-array-read-journal Inv-loop μ-loop
-array-read-journal c = search needs
-
-mul-journal-2 : tie.Need-mul-journal-2 Inv-loop μ-loop
-mul-journal-2 c = search needs
-
-slice-write-journal : tie.Need-slice-write-journal Inv-loop μ-loop
-slice-write-journal c = search needs
-
-add-w : tie.Need-add-w Inv-loop μ-loop
-add-w c = search needs
-
-add-k : tie.Need-add-k Inv-loop μ-loop
-add-k c = search needs
-
-loop-less : tie.Need-loop-less Inv-loop μ-loop
-loop-less c = search needs
-
 loop-again : tie.Need-loop-again Inv-loop μ-loop
 loop-again c =
     let L = c .before in
@@ -81,18 +60,12 @@ returns c =
 
 pub put-reg-range-spec : {M : Type 1} → statement M
 put-reg-range-spec =
-    tie.close
-    (tie.spec
+    tie.close (tie.spec
     Inv-loop
     μ-loop
     loop-holds
-    mul-journal
-    array-read-journal
-    mul-journal-2
-    slice-write-journal
-    add-w
-    add-k
-    loop-less
+    (λ c. search needs) (λ c. search needs) (λ c. search needs) (λ c. search needs) (λ c. search needs) (λ c. search needs)
+    (λ c. search needs)
     loop-again
     same-length
     returns)

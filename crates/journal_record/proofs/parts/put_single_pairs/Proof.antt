@@ -41,44 +41,14 @@ at-k c = (rw (cut-k c) at (c .before .loop .inv .below)) .0
 loop-holds : tie.Need-loop-holds Inv-loop μ-loop
 loop-holds c = record { fk = search needs; kn = search needs; small = search needs; lx = search needs; len = refl; room = search needs; here = omega arith; below = c .pre .3; left = refl }
 
-mul-i : tie.Need-mul-i Inv-loop μ-loop
-mul-i c = search needs
-
-array-read-i : tie.Need-array-read-i Inv-loop μ-loop
-array-read-i c = search needs
-
-cast-a : tie.Need-cast-a Inv-loop μ-loop
-cast-a c = search needs
-
-mul-journal : tie.Need-mul-journal Inv-loop μ-loop
-mul-journal c = search needs
-
-slice-write-journal : tie.Need-slice-write-journal Inv-loop μ-loop
-slice-write-journal c = search needs
-
-add-w : tie.Need-add-w Inv-loop μ-loop
-add-w c = search needs
-
 mul-journal-2 : tie.Need-mul-journal-2 Inv-loop μ-loop
 mul-journal-2 c = omega (arith, at-k c)
 
 shared-slice-read-journal : tie.Need-shared-slice-read-journal Inv-loop μ-loop
 shared-slice-read-journal c = omega (arith, at-k (c .before))
 
-mul-journal-3 : tie.Need-mul-journal-3 Inv-loop μ-loop
-mul-journal-3 c = search needs
-
 slice-write-journal-2 : tie.Need-slice-write-journal-2 Inv-loop μ-loop
 slice-write-journal-2 c = simp length-set (omega arith)
-
-add-w-2 : tie.Need-add-w-2 Inv-loop μ-loop
-add-w-2 c = search needs
-
-add-k : tie.Need-add-k Inv-loop μ-loop
-add-k c = search needs
-
-loop-less : tie.Need-loop-less Inv-loop μ-loop
-loop-less c = search needs
 
 loop-again : tie.Need-loop-again Inv-loop μ-loop
 loop-again c =
@@ -110,24 +80,16 @@ returns c =
 
 pub put-single-pairs-spec : {M : Type 1} → statement M
 put-single-pairs-spec =
-    tie.close
-    (tie.spec
+    tie.close (tie.spec
     Inv-loop
     μ-loop
     loop-holds
-    mul-i
-    array-read-i
-    cast-a
-    mul-journal
-    slice-write-journal
-    add-w
+    (λ c. search needs) (λ c. search needs) (λ c. search needs) (λ c. search needs) (λ c. search needs) (λ c. search needs)
     mul-journal-2
     shared-slice-read-journal
-    mul-journal-3
+    (λ c. search needs)
     slice-write-journal-2
-    add-w-2
-    add-k
-    loop-less
+    (λ c. search needs) (λ c. search needs) (λ c. search needs)
     loop-again
     same-length
     returns)

@@ -11,9 +11,6 @@ use Rattle.journal_record.proofs.record.append.Tie as tie
 long : (c : tie.Start) → (length (c .args .o .ix) ≡ 16) × (length (c .args .regs) ≡ registers)
 long c = (search needs, search needs)
 
-same-length : tie.Need-same-length
-same-length c = simp length-set (c .before .before .put-regs .kept .0 ∙ c .before .before .before .before .before .before .put-pairs .kept .0)
-
 returns : tie.Need-returns
 returns c =
     let g = c .before .before in
@@ -25,15 +22,8 @@ returns c =
 
 pub append-spec : {M : Type 1} → statement M
 append-spec =
-    tie.close
-    (tie.spec
-    (λ c. search needs)
-    (λ c. search needs)
-    (λ c. search needs)
-    (λ c κs. search needs)
-    (λ c κs. search needs)
-    (λ c. search needs)
-    (λ c. search needs)
-    (λ c. search needs)
-    same-length
+    tie.close (tie.spec
+    (λ c. search needs) (λ c. search needs) (λ c. search needs) (λ c κs. search needs) (λ c κs. search needs) (λ c. search needs)
+    (λ c. search needs) (λ c. search needs)
+    (λ c. simp length-set (c .before .before .put-regs .kept .0 ∙ c .before .before .before .before .before .before .put-pairs .kept .0))
     returns)

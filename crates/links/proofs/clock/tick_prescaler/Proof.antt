@@ -5,25 +5,11 @@ use Rattle.rules.specs.Links.{tickPrescaler}
 use Rattle.links.proofs.clock.tick_prescaler.Statement.{statement}
 use Rattle.links.proofs.clock.tick_prescaler.Tie as tie
 
-returns : tie.Need-returns
-unfolding tickPrescaler put
-returns c = rw (yes-le (c .before .if1 .taken), ← c .wrap-add .ensures)
-
-returns-2 : tie.Need-returns-2
-unfolding tickPrescaler put
-returns-2 c = rw (no-le (c .if1 .left))
-
 pub tick-prescaler-spec : {M : Type 1} → statement M
+unfolding tickPrescaler put
 tick-prescaler-spec =
-    tie.close
-    (tie.spec
-    (λ c. search needs)
-    (λ c. search needs)
-    (λ c κs. search needs)
-    (λ c. search needs)
-    (λ c. search needs)
-    returns
-    (λ c. search needs)
-    (λ c. search needs)
-    (λ c. search needs)
-    returns-2)
+    tie.close (tie.spec
+    (λ c. search needs) (λ c. search needs) (λ c κs. search needs) (λ c. search needs) (λ c. search needs)
+    (λ c. rw (yes-le (c .before .if1 .taken), ← c .wrap-add .ensures))
+    (λ c. search needs) (λ c. search needs) (λ c. search needs)
+    (λ c. rw (no-le (c .if1 .left))))

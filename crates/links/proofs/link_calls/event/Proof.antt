@@ -6,17 +6,28 @@ use Rattle.rules.specs.Links.{event}
 use Rattle.links.proofs.link_calls.event.Statement.{statement}
 use Rattle.links.proofs.link_calls.event.Tie as tie
 
-returns : tie.Need-returns
-unfolding event
-returns c = (rw (moving-yes _ _ (sym (c .before .before .moving .ensures) ∙ c .before .if1 .taken)) (c .event-meets .ensures .0), search needs)
-
-returns-2 : tie.Need-returns-2
-unfolding event
-returns-2 c = (rw (moving-no _ _ (sym (c .before .before .before .before .moving .ensures) ∙ c .before .before .before .if1 .left), yes-eq (c .before .if2 .taken)) (c .event-holds .ensures .0), search needs)
-
-returns-3 : tie.Need-returns-3
-unfolding event
-returns-3 c = (rw (moving-no _ _ (sym (c .before .before .before .before .moving .ensures) ∙ c .before .before .before .if1 .left), no-eq (c .before .if2 .left)) (c .refuse .ensures .0), search needs)
-
 pub event-spec : {M : Type 1} → statement M
-event-spec = tie.close (tie.spec (λ c κs. search needs) (λ c κs. search needs) returns (λ c. search needs) (λ c κs. search needs) returns-2 (λ c κs. search needs) returns-3)
+unfolding event
+event-spec =
+    tie.close (tie.spec
+    (λ c κs. search needs) (λ c κs. search needs)
+    (λ c. (
+      rw (moving-yes _ _ (sym (c .before .before .moving .ensures) ∙ c .before .if1 .taken)) (c .event-meets .ensures .0),
+      search needs,
+    ))
+    (λ c. search needs) (λ c κs. search needs)
+    (λ c. (
+      rw (
+        moving-no _ _ (sym (c .before .before .before .before .moving .ensures) ∙ c .before .before .before .if1 .left),
+        yes-eq (c .before .if2 .taken),
+      ) (c .event-holds .ensures .0),
+      search needs,
+    ))
+    (λ c κs. search needs)
+    (λ c. (
+      rw (
+        moving-no _ _ (sym (c .before .before .before .before .moving .ensures) ∙ c .before .before .before .if1 .left),
+        no-eq (c .before .if2 .left),
+      ) (c .refuse .ensures .0),
+      search needs,
+    )))

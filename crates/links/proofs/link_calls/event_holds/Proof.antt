@@ -3,9 +3,9 @@ use Rattle.rules.specs.Links.{eventHolds}
 use Rattle.links.proofs.link_calls.event_holds.Statement.{statement}
 use Rattle.links.proofs.link_calls.event_holds.Tie as tie
 
-returns : tie.Need-returns
-unfolding eventHolds
-returns c = (rw (← c .before .raise .ensures .0) (c .notice-held .ensures .0), search needs)
-
 pub event-holds-spec : {M : Type 1} → statement M
-event-holds-spec = tie.close (tie.spec (λ c κs. search needs) (λ c κs. search needs) returns)
+unfolding eventHolds
+event-holds-spec =
+    tie.close (tie.spec
+    (λ c κs. search needs) (λ c κs. search needs)
+    (λ c. (rw (← c .before .raise .ensures .0) (c .notice-held .ensures .0), search needs)))

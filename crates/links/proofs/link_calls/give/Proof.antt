@@ -6,17 +6,25 @@ use Rattle.rules.specs.Links.{give}
 use Rattle.links.proofs.link_calls.give.Statement.{statement}
 use Rattle.links.proofs.link_calls.give.Tie as tie
 
-returns : tie.Need-returns
-unfolding give
-returns c = (rw (moving-yes _ _ (sym (c .before .before .moving .ensures) ∙ c .before .if1 .taken)) (c .receive .ensures .0), search needs)
-
-returns-2 : tie.Need-returns-2
-unfolding give
-returns-2 c = (rw (moving-no _ _ (sym (c .before .before .before .before .moving .ensures) ∙ c .before .before .before .if1 .left), yes-eq (c .before .if2 .taken)) (c .hold .ensures .0), search needs)
-
-returns-3 : tie.Need-returns-3
-unfolding give
-returns-3 c = (rw (moving-no _ _ (sym (c .before .before .before .before .moving .ensures) ∙ c .before .before .before .if1 .left), no-eq (c .before .if2 .left)) (c .refuse .ensures .0), search needs)
-
 pub give-spec : {M : Type 1} → statement M
-give-spec = tie.close (tie.spec (λ c κs. search needs) (λ c κs. search needs) returns (λ c. search needs) (λ c. search needs) (λ c. search needs) (λ c. search needs) (λ c κs. search needs) returns-2 (λ c κs. search needs) returns-3)
+unfolding give
+give-spec =
+    tie.close (tie.spec
+    (λ c κs. search needs) (λ c κs. search needs)
+    (λ c. (rw (moving-yes _ _ (sym (c .before .before .moving .ensures) ∙ c .before .if1 .taken)) (c .receive .ensures .0), search needs))
+    (λ c. search needs) (λ c. search needs) (λ c. search needs) (λ c. search needs) (λ c κs. search needs)
+    (λ c. (
+      rw (
+        moving-no _ _ (sym (c .before .before .before .before .moving .ensures) ∙ c .before .before .before .if1 .left),
+        yes-eq (c .before .if2 .taken),
+      ) (c .hold .ensures .0),
+      search needs,
+    ))
+    (λ c κs. search needs)
+    (λ c. (
+      rw (
+        moving-no _ _ (sym (c .before .before .before .before .moving .ensures) ∙ c .before .before .before .if1 .left),
+        no-eq (c .before .if2 .left),
+      ) (c .refuse .ensures .0),
+      search needs,
+    )))

@@ -3,9 +3,9 @@ use Rattle.rules.specs.Links.{receive}
 use Rattle.links.proofs.link_calls.receive.Statement.{statement}
 use Rattle.links.proofs.link_calls.receive.Tie as tie
 
-returns : tie.Need-returns
-unfolding receive
-returns c = (rw (← c .before .store-byte .ensures .0) (c .advance .ensures .0), search needs)
-
 pub receive-spec : {M : Type 1} → statement M
-receive-spec = tie.close (tie.spec (λ c. search needs) (λ c. search needs) (λ c. search needs) (λ c. search needs) (λ c κs. search needs) (λ c κs. search needs) returns)
+unfolding receive
+receive-spec =
+    tie.close (tie.spec
+    (λ c. search needs) (λ c. search needs) (λ c. search needs) (λ c. search needs) (λ c κs. search needs) (λ c κs. search needs)
+    (λ c. (rw (← c .before .store-byte .ensures .0) (c .advance .ensures .0), search needs)))

@@ -3,9 +3,9 @@ use Rattle.rules.specs.Links.{takeByte}
 use Rattle.links.proofs.link_calls.take_byte.Statement.{statement}
 use Rattle.links.proofs.link_calls.take_byte.Tie as tie
 
-returns : tie.Need-returns
-unfolding takeByte
-returns c = (rw (← c .before .load-byte .ensures .0) (c .advance .ensures .0), search needs)
-
 pub take-byte-spec : {M : Type 1} → statement M
-take-byte-spec = tie.close (tie.spec (λ c. search needs) (λ c. search needs) (λ c. search needs) (λ c. search needs) (λ c κs. search needs) (λ c κs. search needs) returns)
+unfolding takeByte
+take-byte-spec =
+    tie.close (tie.spec
+    (λ c. search needs) (λ c. search needs) (λ c. search needs) (λ c. search needs) (λ c κs. search needs) (λ c κs. search needs)
+    (λ c. (rw (← c .before .load-byte .ensures .0) (c .advance .ensures .0), search needs)))

@@ -3,9 +3,9 @@ use Rattle.rules.specs.Links.{taken}
 use Rattle.links.proofs.link_calls.taken.Statement.{statement}
 use Rattle.links.proofs.link_calls.taken.Tie as tie
 
-returns : tie.Need-returns
-unfolding taken
-returns c = (c .byte-at .ensures .0, search needs)
-
 pub taken-spec : {M : Type 1} → statement M
-taken-spec = tie.close (tie.spec (λ c. search needs) (λ c. search needs) (λ c. search needs) (λ c. search needs) (λ c κs. search needs) returns)
+unfolding taken
+taken-spec =
+    tie.close (tie.spec
+    (λ c. search needs) (λ c. search needs) (λ c. search needs) (λ c. search needs) (λ c κs. search needs)
+    (λ c. (c .byte-at .ensures .0, search needs)))

@@ -4,13 +4,10 @@ use Rattle.rules.specs.Links.{endAtZero}
 use Rattle.links.proofs.transfers.end_at_zero.Statement.{statement}
 use Rattle.links.proofs.transfers.end_at_zero.Tie as tie
 
-returns : tie.Need-returns
-unfolding endAtZero
-returns c = (rw (yes-eq (c .before .if1 .taken)) (c .transfer-ends .ensures .0), search needs)
-
-returns-2 : tie.Need-returns-2
-unfolding endAtZero
-returns-2 c = (rw (no-eq (c .if1 .left)), search needs)
-
 pub end-at-zero-spec : {M : Type 1} → statement M
-end-at-zero-spec = tie.close (tie.spec (λ c. search needs) (λ c. search needs) (λ c. search needs) (λ c. search needs) (λ c κs. search needs) returns returns-2)
+unfolding endAtZero
+end-at-zero-spec =
+    tie.close (tie.spec
+    (λ c. search needs) (λ c. search needs) (λ c. search needs) (λ c. search needs) (λ c κs. search needs)
+    (λ c. (rw (yes-eq (c .before .if1 .taken)) (c .transfer-ends .ensures .0), search needs))
+    (λ c. (rw (no-eq (c .if1 .left)), search needs)))

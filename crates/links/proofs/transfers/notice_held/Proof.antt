@@ -4,13 +4,11 @@ use Rattle.rules.specs.Links.{noticeHeld}
 use Rattle.links.proofs.transfers.notice_held.Statement.{statement}
 use Rattle.links.proofs.transfers.notice_held.Tie as tie
 
-returns : tie.Need-returns
-unfolding noticeHeld
-returns c = (rw (yes-eq (c .if1 .taken)), search needs)
-
-returns-2 : tie.Need-returns-2
-unfolding noticeHeld
-returns-2 c = (rw (no-eq (c .before .before .if1 .left), ← c .before .lower .ensures .0) (c .raise .ensures .0), search needs)
-
 pub notice-held-spec : {M : Type 1} → statement M
-notice-held-spec = tie.close (tie.spec (λ c. search needs) (λ c. search needs) (λ c. search needs) (λ c. search needs) returns (λ c κs. search needs) (λ c κs. search needs) returns-2)
+unfolding noticeHeld
+notice-held-spec =
+    tie.close (tie.spec
+    (λ c. search needs) (λ c. search needs) (λ c. search needs) (λ c. search needs)
+    (λ c. (rw (yes-eq (c .if1 .taken)), search needs))
+    (λ c κs. search needs) (λ c κs. search needs)
+    (λ c. (rw (no-eq (c .before .before .if1 .left), ← c .before .lower .ensures .0) (c .raise .ensures .0), search needs)))

@@ -3,9 +3,9 @@ use Rattle.rules.specs.Links.{transferEnds}
 use Rattle.links.proofs.transfers.transfer_ends.Statement.{statement}
 use Rattle.links.proofs.transfers.transfer_ends.Tie as tie
 
-returns : tie.Need-returns
-unfolding transferEnds
-returns c = (rw (← c .before .lower .ensures .0) (c .raise .ensures .0), search needs)
-
 pub transfer-ends-spec : {M : Type 1} → statement M
-transfer-ends-spec = tie.close (tie.spec (λ c. search needs) (λ c. search needs) (λ c κs. search needs) (λ c κs. search needs) returns)
+unfolding transferEnds
+transfer-ends-spec =
+    tie.close (tie.spec
+    (λ c. search needs) (λ c. search needs) (λ c κs. search needs) (λ c κs. search needs)
+    (λ c. (rw (← c .before .lower .ensures .0) (c .raise .ensures .0), search needs)))

@@ -4,13 +4,11 @@ use borrow.Author.Needs.{needs}
 use Rattle.memory.proofs.access.access.Statement.{statement}
 use Rattle.memory.proofs.access.access.Tie as tie
 
-returns : tie.Need-returns
-unfolding access
-returns c = (rw (← c .before .index-of .ensures, yes-lt (c .if1 .taken)), search needs)
-
-returns-2 : tie.Need-returns-2
-unfolding access
-returns-2 c = (rw (← c .before .before .index-of .ensures, no-lt (c .before .if1 .left)) (c .refuse-at .ensures .0), search needs)
-
 pub access-spec : {M : Type 1} → statement M
-access-spec = tie.close (tie.spec (λ c κs. search needs) (λ c. search needs) returns (λ c κs. search needs) returns-2)
+unfolding access
+access-spec =
+    tie.close (tie.spec
+    (λ c κs. search needs) (λ c. search needs)
+    (λ c. (rw (← c .before .index-of .ensures, yes-lt (c .if1 .taken)), search needs))
+    (λ c κs. search needs)
+    (λ c. (rw (← c .before .before .index-of .ensures, no-lt (c .before .if1 .left)) (c .refuse-at .ensures .0), search needs)))

@@ -12,9 +12,6 @@ returns c =
     let w = S .args .w in
     (rw (yes-eq (c .if1 .taken), logged-move (w .ix) (w .vs) (search needs) (search needs) (w .n) (S .args .s) (S .args .d) (S .args .n) (S .pre .0), logged-plain (w .ix) (w .vs) (search needs) (search needs) (w .n) (w .cut) (w .source) (w .target) (w .count) (search needs) (search needs)), search needs)
 
-returns-2 : tie.Need-returns-2
-unfolding append
-returns-2 c = (rw (no-eq (c .if1 .left)), search needs)
-
 pub append-move-spec : {M : Type 1} → statement M
-append-move-spec = tie.close (tie.spec returns returns-2)
+unfolding append
+append-move-spec = tie.close (tie.spec returns (λ c. (rw (no-eq (c .if1 .left)), search needs)))

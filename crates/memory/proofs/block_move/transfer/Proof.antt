@@ -4,10 +4,6 @@ use borrow.Author.Needs.{needs}
 use Rattle.memory.proofs.block_move.transfer.Statement.{statement}
 use Rattle.memory.proofs.block_move.transfer.Tie as tie
 
-returns : tie.Need-returns
-unfolding transfer
-returns c = (rw (yes-eq (c .if1 .taken)), search needs)
-
 returns-2 : tie.Need-returns-2
 unfolding transfer moveOrRefuse
 returns-2 c =
@@ -21,14 +17,11 @@ returns-3 c =
     (rw (no-eq (F .before .before .before .if1 .left), ← F .before .before .move-outside .ensures, no-eq (F .if2 .left)) (c .refuse-at .ensures .0), search needs)
 
 pub transfer-spec : {M : Type 1} → statement M
+unfolding transfer
 transfer-spec =
-    tie.close
-    (tie.spec
-    returns
-    (λ c κs. search needs)
-    (λ c κs. search needs)
-    (λ c κs. search needs)
-    (λ c κs. search needs)
+    tie.close (tie.spec
+    (λ c. (rw (yes-eq (c .if1 .taken)), search needs))
+    (λ c κs. search needs) (λ c κs. search needs) (λ c κs. search needs) (λ c κs. search needs)
     returns-2
     (λ c κs. search needs)
     returns-3)

@@ -11,10 +11,10 @@ returns c =
     let w = c .before .before .args .w in
     (rw (yes-eq (c .if1 .taken), logged-more (w .ix) (w .vs) (search needs) (search needs) (w .n) (w .cut) (w .source) (w .target) (w .count) (c .before .before .args .i) (c .before .before .args .v) (search needs) (search needs)), search needs)
 
-returns-2 : tie.Need-returns-2
-unfolding append
-returns-2 c = (rw (no-eq (c .if1 .left)), search needs)
-
 pub append-word-spec : {M : Type 1} → statement M
+unfolding append
 append-word-spec =
-    tie.close (tie.spec (λ c. search needs) (λ c. search needs) (λ c. search needs) (λ c. search needs) (λ c. search needs) returns returns-2)
+    tie.close (tie.spec
+    (λ c. search needs) (λ c. search needs) (λ c. search needs) (λ c. search needs) (λ c. search needs)
+    returns
+    (λ c. (rw (no-eq (c .if1 .left)), search needs)))

@@ -3,18 +3,20 @@ use borrow.Author.Needs.{needs}
 use Rattle.memory.proofs.store.store_byte.Statement.{statement}
 use Rattle.memory.proofs.store.store_byte.Tie as tie
 
-returns : tie.Need-returns
-unfolding storeByte
-returns c = (rw (← c .before .before .before .before .before .selector .ensures .0, ← c .before .before .before .before .word-at .ensures, ← c .before .before .before .with-byte .ensures, ← c .before .before .access .ensures .0, ← c .before .index-of .ensures) (c .append-word .ensures .0), search needs)
-
 pub store-byte-spec : {M : Type 1} → statement M
+unfolding storeByte
 store-byte-spec =
-    tie.close
-    (tie.spec
+    tie.close (tie.spec
+    (λ c κs. search needs) (λ c κs. search needs) (λ c κs. search needs) (λ c κs. search needs) (λ c κs. search needs)
     (λ c κs. search needs)
-    (λ c κs. search needs)
-    (λ c κs. search needs)
-    (λ c κs. search needs)
-    (λ c κs. search needs)
-    (λ c κs. search needs)
-    returns)
+    (λ c. (
+      rw (
+        ← c .before .before .before .before .before .selector .ensures .0,
+        ← c .before .before .before .before .word-at .ensures,
+        ← c .before .before .before .with-byte .ensures,
+        ← c .before .before .access .ensures .0,
+        ← c .before .index-of .ensures,
+      )
+          (c .append-word .ensures .0),
+      search needs,
+    )))

@@ -3,10 +3,9 @@ use borrow.Author.Needs.{needs}
 use Rattle.memory.proofs.store.store_word.Statement.{statement}
 use Rattle.memory.proofs.store.store_word.Tie as tie
 
-returns : tie.Need-returns
-unfolding storeWord
-returns c = (rw (← c .before .before .access .ensures .0, ← c .before .index-of .ensures) (c .append-word .ensures .0), search needs)
-
 pub store-word-spec : {M : Type 1} → statement M
+unfolding storeWord
 store-word-spec =
-    tie.close (tie.spec (λ c κs. search needs) (λ c κs. search needs) (λ c κs. search needs) returns)
+    tie.close (tie.spec
+    (λ c κs. search needs) (λ c κs. search needs) (λ c κs. search needs)
+    (λ c. (rw (← c .before .before .access .ensures .0, ← c .before .index-of .ensures) (c .append-word .ensures .0), search needs)))

@@ -3,9 +3,9 @@ use borrow.Author.Needs.{needs}
 use Rattle.memory.proofs.store.w_index_word.Statement.{statement}
 use Rattle.memory.proofs.store.w_index_word.Tie as tie
 
-returns : tie.Need-returns
-unfolding wIndexWord
-returns c = (rw (← c .before .at-word .ensures) (c .store-word .ensures .0), search needs)
-
 pub w-index-word-spec : {M : Type 1} → statement M
-w-index-word-spec = tie.close (tie.spec (λ c κs. search needs) (λ c κs. search needs) returns)
+unfolding wIndexWord
+w-index-word-spec =
+    tie.close (tie.spec
+    (λ c κs. search needs) (λ c κs. search needs)
+    (λ c. (rw (← c .before .at-word .ensures) (c .store-word .ensures .0), search needs)))

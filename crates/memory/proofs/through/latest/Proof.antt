@@ -20,21 +20,6 @@ abbrev μ-loop : tie.MeasureT-loop
 loop-holds : tie.Need-loop-holds Inv-loop μ-loop
 loop-holds c = (search needs, search needs, search needs, search needs, λ m. refl)
 
-sub-k : tie.Need-sub-k Inv-loop μ-loop
-sub-k c = search needs
-
-mul-if1 : tie.Need-mul-if1 Inv-loop μ-loop
-mul-if1 c = search needs
-
-element-copy-out-if1 : tie.Need-element-copy-out-if1 Inv-loop μ-loop
-element-copy-out-if1 c = search needs
-
-mul-result : tie.Need-mul-result Inv-loop μ-loop
-mul-result c = search needs
-
-element-copy-out-result : tie.Need-element-copy-out-result Inv-loop μ-loop
-element-copy-out-result c = search needs
-
 returns : tie.Need-returns Inv-loop μ-loop
 returns c =
     λ m l e.
@@ -42,9 +27,6 @@ returns c =
     let a = L .before .args in
     let inv = L .loop .inv in
     sym (inv .4 m ∙ through-here (a .t1 .ix) (a .t1 .vs) (inv .2) (inv .3) m (a .i) (a .f) (L .loop .k) (omega arith) (omega arith) l (c .before .if1 .taken))
-
-loop-less : tie.Need-loop-less Inv-loop μ-loop
-loop-less c = search needs
 
 loop-again : tie.Need-loop-again Inv-loop μ-loop
 loop-again c =
@@ -64,17 +46,12 @@ returns-2 c =
 
 pub latest-spec : {M : Type 1} → statement M
 latest-spec =
-    tie.close
-    (tie.spec
+    tie.close (tie.spec
     Inv-loop
     μ-loop
     loop-holds
-    sub-k
-    mul-if1
-    element-copy-out-if1
-    mul-result
-    element-copy-out-result
+    (λ c. search needs) (λ c. search needs) (λ c. search needs) (λ c. search needs) (λ c. search needs)
     returns
-    loop-less
+    (λ c. search needs)
     loop-again
     returns-2)

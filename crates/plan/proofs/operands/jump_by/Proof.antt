@@ -3,9 +3,9 @@ use Rattle.rules.specs.Data.{jumpBy}
 use Rattle.plan.proofs.operands.jump_by.Statement.{statement}
 use Rattle.plan.proofs.operands.jump_by.Tie as tie
 
-returns : tie.Need-returns
-unfolding jumpBy
-returns c = (rw (← c .before .at-byte .ensures) (c .put .ensures .0), search needs)
-
 pub jump-by-spec : {M : Type 1} → statement M
-jump-by-spec = tie.close (tie.spec (λ c. search needs) (λ c κs. search needs) (λ c κs. search needs) returns)
+unfolding jumpBy
+jump-by-spec =
+    tie.close (tie.spec
+    (λ c. search needs) (λ c κs. search needs) (λ c κs. search needs)
+    (λ c. (rw (← c .before .at-byte .ensures) (c .put .ensures .0), search needs)))

@@ -3,11 +3,9 @@ use Rattle.rules.specs.Scheduling.{endLast}
 use Rattle.processes.proofs.ending.end_last.Statement.{statement}
 use Rattle.processes.proofs.ending.end_last.Tie as tie
 
-returns : tie.Need-returns
-unfolding endLast
-returns c = (rw (← c .before .r-index-word .ensures .0) (c .put .ensures .0), search needs)
-
 pub end-last-spec : {M : Type 1} → statement M
+unfolding endLast
 end-last-spec =
-    tie.close (tie.spec (λ c. search needs) (λ c. search needs) (λ c. search needs) (λ c κs. search needs)
-    (λ c κs. search needs) returns)
+    tie.close (tie.spec
+    (λ c. search needs) (λ c. search needs) (λ c. search needs) (λ c κs. search needs) (λ c κs. search needs)
+    (λ c. (rw (← c .before .r-index-word .ensures .0) (c .put .ensures .0), search needs)))

@@ -3,12 +3,12 @@ use Rattle.rules.specs.Scheduling.{endOne}
 use Rattle.processes.proofs.ending.end_one.Statement.{statement}
 use Rattle.processes.proofs.ending.end_one.Tie as tie
 
-returns : tie.Need-returns
-unfolding endOne
-returns c = (
-  rw (← c .before .before .before .wrap-add .ensures, ← c .before .w-index-word .ensures .0) (c .goto-snp .ensures .0),
-  search needs,
-)
-
 pub end-one-spec : {M : Type 1} → statement M
-end-one-spec = tie.close (tie.spec (λ c κs. search needs) (λ c. search needs) (λ c κs. search needs) (λ c κs. search needs) returns)
+unfolding endOne
+end-one-spec =
+    tie.close (tie.spec
+    (λ c κs. search needs) (λ c. search needs) (λ c κs. search needs) (λ c κs. search needs)
+    (λ c. (
+      rw (← c .before .before .before .wrap-add .ensures, ← c .before .w-index-word .ensures .0) (c .goto-snp .ensures .0),
+      search needs,
+    )))

@@ -3,15 +3,13 @@ use Rattle.rules.specs.Scheduling.{endp}
 use Rattle.processes.proofs.ending.endp.Statement.{statement}
 use Rattle.processes.proofs.ending.endp.Tie as tie
 
-returns : tie.Need-returns
-unfolding endp
-returns c = (
-  rw (← c .before .before .before .at-word .ensures, ← c .before .before .word-at .ensures, ← c .before .load-word .ensures .0)
-      (c .end-counted .ensures .0),
-  search needs,
-)
-
 pub endp-spec : {M : Type 1} → statement M
+unfolding endp
 endp-spec =
-    tie.close (tie.spec (λ c. search needs) (λ c κs. search needs) (λ c κs. search needs) (λ c κs. search needs) (λ c κs. search needs)
-    returns)
+    tie.close (tie.spec
+    (λ c. search needs) (λ c κs. search needs) (λ c κs. search needs) (λ c κs. search needs) (λ c κs. search needs)
+    (λ c. (
+      rw (← c .before .before .before .at-word .ensures, ← c .before .before .word-at .ensures, ← c .before .load-word .ensures .0)
+          (c .end-counted .ensures .0),
+      search needs,
+    )))

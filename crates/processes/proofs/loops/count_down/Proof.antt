@@ -3,9 +3,9 @@ use Rattle.rules.specs.Scheduling.{countDown}
 use Rattle.processes.proofs.loops.count_down.Statement.{statement}
 use Rattle.processes.proofs.loops.count_down.Tie as tie
 
-returns : tie.Need-returns
-unfolding countDown
-returns c = (rw (← c .before .r-index-word .ensures .0) (c .add-to-c .ensures .0), search needs)
-
 pub count-down-spec : {M : Type 1} → statement M
-count-down-spec = tie.close (tie.spec (λ c. search needs) (λ c κs. search needs) (λ c κs. search needs) returns)
+unfolding countDown
+count-down-spec =
+    tie.close (tie.spec
+    (λ c. search needs) (λ c κs. search needs) (λ c κs. search needs)
+    (λ c. (rw (← c .before .r-index-word .ensures .0) (c .add-to-c .ensures .0), search needs)))

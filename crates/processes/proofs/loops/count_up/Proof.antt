@@ -3,9 +3,9 @@ use Rattle.rules.specs.Scheduling.{countUp}
 use Rattle.processes.proofs.loops.count_up.Statement.{statement}
 use Rattle.processes.proofs.loops.count_up.Tie as tie
 
-returns : tie.Need-returns
-unfolding countUp
-returns c = (rw (← c .before .r-index-word .ensures .0) (c .add-to-c .ensures .0), search needs)
-
 pub count-up-spec : {M : Type 1} → statement M
-count-up-spec = tie.close (tie.spec (λ c. search needs) (λ c κs. search needs) (λ c κs. search needs) returns)
+unfolding countUp
+count-up-spec =
+    tie.close (tie.spec
+    (λ c. search needs) (λ c κs. search needs) (λ c κs. search needs)
+    (λ c. (rw (← c .before .r-index-word .ensures .0) (c .add-to-c .ensures .0), search needs)))

@@ -3,14 +3,13 @@ use Rattle.rules.specs.Scheduling.{loopBack}
 use Rattle.processes.proofs.loops.loop_back.Statement.{statement}
 use Rattle.processes.proofs.loops.loop_back.Tie as tie
 
-returns : tie.Need-returns
-unfolding loopBack
-returns c = (
-  rw (← c .before .before .before .before .back-by .ensures, ← c .before .w-index-word .ensures .0) (c .put .ensures .0),
-  search needs,
-)
-
 pub loop-back-spec : {M : Type 1} → statement M
+unfolding loopBack
 loop-back-spec =
-    tie.close (tie.spec (λ c. search needs) (λ c. search needs) (λ c κs. search needs) (λ c. search needs)
-    (λ c. search needs) (λ c κs. search needs) (λ c κs. search needs) returns)
+    tie.close (tie.spec
+    (λ c. search needs) (λ c. search needs) (λ c κs. search needs) (λ c. search needs) (λ c. search needs) (λ c κs. search needs)
+    (λ c κs. search needs)
+    (λ c. (
+      rw (← c .before .before .before .before .back-by .ensures, ← c .before .w-index-word .ensures .0) (c .put .ensures .0),
+      search needs,
+    )))

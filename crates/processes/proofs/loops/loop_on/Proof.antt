@@ -4,18 +4,14 @@ use Rattle.rules.specs.Scheduling.{loopOn}
 use Rattle.processes.proofs.loops.loop_on.Statement.{statement}
 use Rattle.processes.proofs.loops.loop_on.Tie as tie
 
-returns : tie.Need-returns
-unfolding loopOn
-returns c = (
-  rw (← c .before .before .before .positive .ensures, yes (c .before .before .if1 .taken), ← c .before .count-up .ensures .0)
-      (c .loop-back .ensures .0),
-  search needs,
-)
-
-returns-2 : tie.Need-returns-2
-unfolding loopOn
-returns-2 c = (rw (← c .before .positive .ensures, no (c .if1 .left)), search needs)
-
 pub loop-on-spec : {M : Type 1} → statement M
+unfolding loopOn
 loop-on-spec =
-    tie.close (tie.spec (λ c. search needs) (λ c κs. search needs) (λ c κs. search needs) (λ c κs. search needs) returns returns-2)
+    tie.close (tie.spec
+    (λ c. search needs) (λ c κs. search needs) (λ c κs. search needs) (λ c κs. search needs)
+    (λ c. (
+      rw (← c .before .before .before .positive .ensures, yes (c .before .before .if1 .taken), ← c .before .count-up .ensures .0)
+          (c .loop-back .ensures .0),
+      search needs,
+    ))
+    (λ c. (rw (← c .before .positive .ensures, no (c .if1 .left)), search needs)))

@@ -4,13 +4,10 @@ use Rattle.rules.specs.Scheduling.{sliceIfLong}
 use Rattle.processes.proofs.slices.slice_if_long.Statement.{statement}
 use Rattle.processes.proofs.slices.slice_if_long.Tie as tie
 
-returns : tie.Need-returns
-unfolding sliceIfLong
-returns c = (rw (yes-le (c .before .if1 .taken)) (c .slice-out .ensures .0), search needs)
-
-returns-2 : tie.Need-returns-2
-unfolding sliceIfLong
-returns-2 c = (rw (no-le (c .if1 .left)), search needs)
-
 pub slice-if-long-spec : {M : Type 1} → statement M
-slice-if-long-spec = tie.close (tie.spec (λ c. search needs) (λ c κs. search needs) returns returns-2)
+unfolding sliceIfLong
+slice-if-long-spec =
+    tie.close (tie.spec
+    (λ c. search needs) (λ c κs. search needs)
+    (λ c. (rw (yes-le (c .before .if1 .taken)) (c .slice-out .ensures .0), search needs))
+    (λ c. (rw (no-le (c .if1 .left)), search needs)))

@@ -3,10 +3,9 @@ use Rattle.rules.specs.Scheduling.{run, sliceOut}
 use Rattle.processes.proofs.slices.slice_out.Statement.{statement}
 use Rattle.processes.proofs.slices.slice_out.Tie as tie
 
-returns : tie.Need-returns
-unfolding sliceOut
-returns c =
-    (rw (← c .before .before .save-iptr .ensures .0, ← c .before .run .ensures .0) (c .goto-snp .ensures .0), search needs)
-
 pub slice-out-spec : {M : Type 1} → statement M
-slice-out-spec = tie.close (tie.spec (λ c. search needs) (λ c κs. search needs) (λ c κs. search needs) (λ c κs. search needs) returns)
+unfolding sliceOut
+slice-out-spec =
+    tie.close (tie.spec
+    (λ c. search needs) (λ c κs. search needs) (λ c κs. search needs) (λ c κs. search needs)
+    (λ c. (rw (← c .before .before .save-iptr .ensures .0, ← c .before .run .ensures .0) (c .goto-snp .ensures .0), search needs)))

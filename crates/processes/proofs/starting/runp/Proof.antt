@@ -3,9 +3,6 @@ use Rattle.rules.specs.Scheduling.{run, runp}
 use Rattle.processes.proofs.starting.runp.Statement.{statement}
 use Rattle.processes.proofs.starting.runp.Tie as tie
 
-returns : tie.Need-returns
-unfolding runp
-returns c = (c .run .ensures .0, search needs)
-
 pub runp-spec : {M : Type 1} → statement M
-runp-spec = tie.close (tie.spec (λ c. search needs) (λ c κs. search needs) returns)
+unfolding runp
+runp-spec = tie.close (tie.spec (λ c. search needs) (λ c κs. search needs) (λ c. (c .run .ensures .0, search needs)))

@@ -3,9 +3,9 @@ use Rattle.rules.specs.Scheduling.{addToC}
 use Rattle.scheduling.proofs.flags.add_to_c.Statement.{statement}
 use Rattle.scheduling.proofs.flags.add_to_c.Tie as tie
 
-returns : tie.Need-returns
-unfolding addToC
-returns c = (rw (← c .before .wrap-add .ensures) (c .put .ensures .0), search needs)
-
 pub add-to-c-spec : {M : Type 1} → statement M
-add-to-c-spec = tie.close (tie.spec (λ c. search needs) (λ c κs. search needs) (λ c κs. search needs) returns)
+unfolding addToC
+add-to-c-spec =
+    tie.close (tie.spec
+    (λ c. search needs) (λ c κs. search needs) (λ c κs. search needs)
+    (λ c. (rw (← c .before .wrap-add .ensures) (c .put .ensures .0), search needs)))

@@ -3,9 +3,6 @@ use Rattle.rules.specs.Scheduling.{clearIdle}
 use Rattle.scheduling.proofs.flags.clear_idle.Statement.{statement}
 use Rattle.scheduling.proofs.flags.clear_idle.Tie as tie
 
-returns : tie.Need-returns
-unfolding clearIdle
-returns c = (c .lower .ensures .0, search needs)
-
 pub clear-idle-spec : {M : Type 1} → statement M
-clear-idle-spec = tie.close (tie.spec (λ c κs. search needs) returns)
+unfolding clearIdle
+clear-idle-spec = tie.close (tie.spec (λ c κs. search needs) (λ c. (c .lower .ensures .0, search needs)))

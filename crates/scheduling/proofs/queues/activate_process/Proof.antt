@@ -3,10 +3,9 @@ use Rattle.rules.specs.Scheduling.{activateProcess}
 use Rattle.scheduling.proofs.queues.activate_process.Statement.{statement}
 use Rattle.scheduling.proofs.queues.activate_process.Tie as tie
 
-returns : tie.Need-returns
-unfolding activateProcess
-returns c =
-    (rw (← c .before .before .clear-idle .ensures .0, ← c .before .put .ensures .0) (c .r-index-word .ensures .0), search needs)
-
 pub activate-process-spec : {M : Type 1} → statement M
-activate-process-spec = tie.close (tie.spec (λ c. search needs) (λ c κs. search needs) (λ c κs. search needs) (λ c κs. search needs) returns)
+unfolding activateProcess
+activate-process-spec =
+    tie.close (tie.spec
+    (λ c. search needs) (λ c κs. search needs) (λ c κs. search needs) (λ c κs. search needs)
+    (λ c. (rw (← c .before .before .clear-idle .ensures .0, ← c .before .put .ensures .0) (c .r-index-word .ensures .0), search needs)))

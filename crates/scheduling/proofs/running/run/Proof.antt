@@ -4,15 +4,12 @@ use Rattle.rules.specs.Scheduling.{enqueue, run}
 use Rattle.scheduling.proofs.running.run.Statement.{statement}
 use Rattle.scheduling.proofs.running.run.Tie as tie
 
-returns : tie.Need-returns
-unfolding run
-returns c = (rw (yes-eq (c .before .before .if1 .taken), ← c .before .level .ensures .0) (c .enqueue .ensures .0), search needs)
-
-returns-2 : tie.Need-returns-2
-unfolding run
-returns-2 c = (rw (no-eq (c .before .if1 .left)) (c .run-over-low .ensures .0), search needs)
-
 pub run-spec : {M : Type 1} → statement M
+unfolding run
 run-spec =
-    tie.close (tie.spec (λ c. search needs) (λ c κs. search needs) (λ c. search needs) (λ c. search needs) (λ c. search needs) (λ c. search needs) (λ c κs. search needs)
-    returns (λ c κs. search needs) returns-2)
+    tie.close (tie.spec
+    (λ c. search needs) (λ c κs. search needs) (λ c. search needs) (λ c. search needs) (λ c. search needs) (λ c. search needs)
+    (λ c κs. search needs)
+    (λ c. (rw (yes-eq (c .before .before .if1 .taken), ← c .before .level .ensures .0) (c .enqueue .ensures .0), search needs))
+    (λ c κs. search needs)
+    (λ c. (rw (no-eq (c .before .if1 .left)) (c .run-over-low .ensures .0), search needs)))

@@ -4,14 +4,11 @@ use Rattle.rules.specs.Scheduling.{enqueue, runLow}
 use Rattle.scheduling.proofs.running.run_low.Statement.{statement}
 use Rattle.scheduling.proofs.running.run_low.Tie as tie
 
-returns : tie.Need-returns
-unfolding runLow
-returns c =
-    (rw (yes-eq (c .before .before .if1 .taken), ← c .before .put .ensures .0) (c .activate-process .ensures .0), search needs)
-
-returns-2 : tie.Need-returns-2
-unfolding runLow
-returns-2 c = (rw (no-eq (c .before .if1 .left)) (c .enqueue .ensures .0), search needs)
-
 pub run-low-spec : {M : Type 1} → statement M
-run-low-spec = tie.close (tie.spec (λ c. search needs) (λ c κs. search needs) (λ c κs. search needs) returns (λ c κs. search needs) returns-2)
+unfolding runLow
+run-low-spec =
+    tie.close (tie.spec
+    (λ c. search needs) (λ c κs. search needs) (λ c κs. search needs)
+    (λ c. (rw (yes-eq (c .before .before .if1 .taken), ← c .before .put .ensures .0) (c .activate-process .ensures .0), search needs))
+    (λ c κs. search needs)
+    (λ c. (rw (no-eq (c .before .if1 .left)) (c .enqueue .ensures .0), search needs)))

@@ -3,9 +3,6 @@ use Rattle.rules.specs.Scheduling.{restore}
 use Rattle.scheduling.proofs.save_area.restore.Statement.{statement}
 use Rattle.scheduling.proofs.save_area.restore.Tie as tie
 
-returns : tie.Need-returns
-unfolding restore
-returns c = (c .r-index-word .ensures .0, search needs)
-
 pub restore-spec : {M : Type 1} → statement M
-restore-spec = tie.close (tie.spec (λ c κs. search needs) returns)
+unfolding restore
+restore-spec = tie.close (tie.spec (λ c κs. search needs) (λ c. (c .r-index-word .ensures .0, search needs)))

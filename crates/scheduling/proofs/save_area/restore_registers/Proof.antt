@@ -3,10 +3,9 @@ use Rattle.rules.specs.Scheduling.{resumed, restore, restoreRegisters}
 use Rattle.scheduling.proofs.save_area.restore_registers.Statement.{statement}
 use Rattle.scheduling.proofs.save_area.restore_registers.Tie as tie
 
-returns : tie.Need-returns
-unfolding restoreRegisters
-returns c =
-    (rw (← c .before .before .restore .ensures .0, ← c .before .restore-rest .ensures .0) (c .resumed .ensures .0), search needs)
-
 pub restore-registers-spec : {M : Type 1} → statement M
-restore-registers-spec = tie.close (tie.spec (λ c κs. search needs) (λ c κs. search needs) (λ c κs. search needs) returns)
+unfolding restoreRegisters
+restore-registers-spec =
+    tie.close (tie.spec
+    (λ c κs. search needs) (λ c κs. search needs) (λ c κs. search needs)
+    (λ c. (rw (← c .before .before .restore .ensures .0, ← c .before .restore-rest .ensures .0) (c .resumed .ensures .0), search needs)))

@@ -4,10 +4,6 @@ use Rattle.rules.specs.Scheduling.{restore, restoreRest}
 use Rattle.scheduling.proofs.save_area.restore_rest.Statement.{statement}
 use Rattle.scheduling.proofs.save_area.restore_rest.Tie as tie
 
-returns : tie.Need-returns
-unfolding restoreRest
-returns c = (rw (yes-eq (c .if1 .taken)), search needs)
-
 returns-2 : tie.Need-returns-2
 unfolding restoreRest
 returns-2 c = (
@@ -22,6 +18,10 @@ returns-2 c = (
 )
 
 pub restore-rest-spec : {M : Type 1} → statement M
+unfolding restoreRest
 restore-rest-spec =
-    tie.close (tie.spec (λ c. search needs) returns (λ c κs. search needs) (λ c κs. search needs) (λ c κs. search needs) (λ c κs. search needs)
-    (λ c κs. search needs) returns-2)
+    tie.close (tie.spec
+    (λ c. search needs)
+    (λ c. (rw (yes-eq (c .if1 .taken)), search needs))
+    (λ c κs. search needs) (λ c κs. search needs) (λ c κs. search needs) (λ c κs. search needs) (λ c κs. search needs)
+    returns-2)

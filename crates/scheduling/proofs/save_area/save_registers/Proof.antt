@@ -3,10 +3,9 @@ use Rattle.rules.specs.Scheduling.{save, saveRegisters}
 use Rattle.scheduling.proofs.save_area.save_registers.Statement.{statement}
 use Rattle.scheduling.proofs.save_area.save_registers.Tie as tie
 
-returns : tie.Need-returns
-unfolding saveRegisters
-returns c =
-    (rw (← c .before .before .save .ensures .0, ← c .before .save-rest .ensures .0) (c .save-ereg .ensures .0), search needs)
-
 pub save-registers-spec : {M : Type 1} → statement M
-save-registers-spec = tie.close (tie.spec (λ c κs. search needs) (λ c κs. search needs) (λ c κs. search needs) returns)
+unfolding saveRegisters
+save-registers-spec =
+    tie.close (tie.spec
+    (λ c κs. search needs) (λ c κs. search needs) (λ c κs. search needs)
+    (λ c. (rw (← c .before .before .save .ensures .0, ← c .before .save-rest .ensures .0) (c .save-ereg .ensures .0), search needs)))

@@ -4,10 +4,6 @@ use Rattle.rules.specs.Scheduling.{save, saveRest}
 use Rattle.scheduling.proofs.save_area.save_rest.Statement.{statement}
 use Rattle.scheduling.proofs.save_area.save_rest.Tie as tie
 
-returns : tie.Need-returns
-unfolding saveRest
-returns c = (rw (yes-eq (c .if1 .taken)), search needs)
-
 returns-2 : tie.Need-returns-2
 unfolding saveRest
 returns-2 c = (
@@ -23,6 +19,10 @@ returns-2 c = (
 )
 
 pub save-rest-spec : {M : Type 1} → statement M
+unfolding saveRest
 save-rest-spec =
-    tie.close (tie.spec (λ c. search needs) returns (λ c κs. search needs) (λ c κs. search needs) (λ c κs. search needs) (λ c κs. search needs) (λ c κs. search needs)
+    tie.close (tie.spec
+    (λ c. search needs)
+    (λ c. (rw (yes-eq (c .if1 .taken)), search needs))
+    (λ c κs. search needs) (λ c κs. search needs) (λ c κs. search needs) (λ c κs. search needs) (λ c κs. search needs)
     returns-2)

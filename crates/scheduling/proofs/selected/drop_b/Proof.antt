@@ -3,9 +3,6 @@ use Rattle.rules.specs.Timers.{dropB}
 use Rattle.scheduling.proofs.selected.drop_b.Statement.{statement}
 use Rattle.scheduling.proofs.selected.drop_b.Tie as tie
 
-returns : tie.Need-returns
-unfolding dropB
-returns c = (c .put .ensures .0, search needs)
-
 pub drop-b-spec : {M : Type 1} → statement M
-drop-b-spec = tie.close (tie.spec (λ c. search needs) (λ c κs. search needs) returns)
+unfolding dropB
+drop-b-spec = tie.close (tie.spec (λ c. search needs) (λ c κs. search needs) (λ c. (c .put .ensures .0, search needs)))

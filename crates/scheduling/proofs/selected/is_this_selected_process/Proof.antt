@@ -3,9 +3,13 @@ use Rattle.rules.specs.Timers.{isThisSelectedProcess}
 use Rattle.scheduling.proofs.selected.is_this_selected_process.Statement.{statement}
 use Rattle.scheduling.proofs.selected.is_this_selected_process.Tie as tie
 
-returns : tie.Need-returns
-unfolding isThisSelectedProcess
-returns c = (rw (← c .before .before .before .at-word .ensures, ← c .before .before .word-at .ensures, ← c .before .load-word .ensures .0) (c .select-first .ensures .0), search needs)
-
 pub is-this-selected-process-spec : {M : Type 1} → statement M
-is-this-selected-process-spec = tie.close (tie.spec (λ c. search needs) (λ c κs. search needs) (λ c κs. search needs) (λ c κs. search needs) (λ c κs. search needs) returns)
+unfolding isThisSelectedProcess
+is-this-selected-process-spec =
+    tie.close (tie.spec
+    (λ c. search needs) (λ c κs. search needs) (λ c κs. search needs) (λ c κs. search needs) (λ c κs. search needs)
+    (λ c. (
+      rw (← c .before .before .before .at-word .ensures, ← c .before .before .word-at .ensures, ← c .before .load-word .ensures .0)
+          (c .select-first .ensures .0),
+      search needs,
+    )))

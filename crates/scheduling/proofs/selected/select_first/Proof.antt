@@ -4,13 +4,14 @@ use Rattle.rules.specs.Timers.{selectFirst}
 use Rattle.scheduling.proofs.selected.select_first.Statement.{statement}
 use Rattle.scheduling.proofs.selected.select_first.Tie as tie
 
-returns : tie.Need-returns
-unfolding selectFirst
-returns c = (rw (yes-eq (c .before .before .before .before .if1 .taken), ← c .before .w-index-word .ensures .0) (c .put .ensures .0), search needs)
-
-returns-2 : tie.Need-returns-2
-unfolding selectFirst
-returns-2 c = (rw (no-eq (c .before .if1 .left)) (c .put2 .ensures .0), search needs)
-
 pub select-first-spec : {M : Type 1} → statement M
-select-first-spec = tie.close (tie.spec (λ c. search needs) (λ c. search needs) (λ c κs. search needs) (λ c κs. search needs) returns (λ c κs. search needs) returns-2)
+unfolding selectFirst
+select-first-spec =
+    tie.close (tie.spec
+    (λ c. search needs) (λ c. search needs) (λ c κs. search needs) (λ c κs. search needs)
+    (λ c. (
+      rw (yes-eq (c .before .before .before .before .if1 .taken), ← c .before .w-index-word .ensures .0) (c .put .ensures .0),
+      search needs,
+    ))
+    (λ c κs. search needs)
+    (λ c. (rw (no-eq (c .before .if1 .left)) (c .put2 .ensures .0), search needs)))

@@ -4,13 +4,11 @@ use Rattle.rules.specs.Scheduling.{actOnSNP}
 use Rattle.scheduling.proofs.start_next.act_on_snp.Statement.{statement}
 use Rattle.scheduling.proofs.start_next.act_on_snp.Tie as tie
 
-returns : tie.Need-returns
-unfolding actOnSNP
-returns c = (rw (yes-eq (c .if1 .taken)), search needs)
-
-returns-2 : tie.Need-returns-2
-unfolding actOnSNP
-returns-2 c = (rw (no-eq (c .before .if1 .left)) (c .start-next-process .ensures .0), search needs)
-
 pub act-on-snp-spec : {M : Type 1} → statement M
-act-on-snp-spec = tie.close (tie.spec (λ c. search needs) returns (λ c κs. search needs) returns-2)
+unfolding actOnSNP
+act-on-snp-spec =
+    tie.close (tie.spec
+    (λ c. search needs)
+    (λ c. (rw (yes-eq (c .if1 .taken)), search needs))
+    (λ c κs. search needs)
+    (λ c. (rw (no-eq (c .before .if1 .left)) (c .start-next-process .ensures .0), search needs)))

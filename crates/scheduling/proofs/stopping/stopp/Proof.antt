@@ -3,9 +3,9 @@ use Rattle.rules.specs.Scheduling.{stopp}
 use Rattle.scheduling.proofs.stopping.stopp.Statement.{statement}
 use Rattle.scheduling.proofs.stopping.stopp.Tie as tie
 
-returns : tie.Need-returns
-unfolding stopp
-returns c = (rw (← c .before .save-iptr .ensures .0) (c .goto-snp .ensures .0), search needs)
-
 pub stopp-spec : {M : Type 1} → statement M
-stopp-spec = tie.close (tie.spec (λ c κs. search needs) (λ c κs. search needs) returns)
+unfolding stopp
+stopp-spec =
+    tie.close (tie.spec
+    (λ c κs. search needs) (λ c κs. search needs)
+    (λ c. (rw (← c .before .save-iptr .ensures .0) (c .goto-snp .ensures .0), search needs)))

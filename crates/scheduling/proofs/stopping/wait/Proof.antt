@@ -3,9 +3,9 @@ use Rattle.rules.specs.Scheduling.{stopp, wait}
 use Rattle.scheduling.proofs.stopping.wait.Statement.{statement}
 use Rattle.scheduling.proofs.stopping.wait.Tie as tie
 
-returns : tie.Need-returns
-unfolding wait
-returns c = (rw (← c .before .w-index-word .ensures .0) (c .stopp .ensures .0), search needs)
-
 pub wait-spec : {M : Type 1} → statement M
-wait-spec = tie.close (tie.spec (λ c. search needs) (λ c κs. search needs) (λ c κs. search needs) returns)
+unfolding wait
+wait-spec =
+    tie.close (tie.spec
+    (λ c. search needs) (λ c κs. search needs) (λ c κs. search needs)
+    (λ c. (rw (← c .before .w-index-word .ensures .0) (c .stopp .ensures .0), search needs)))

@@ -5,25 +5,12 @@ use borrow.Author.Needs.{needs}
 use Rattle.step_pending.proofs.pending.due.Statement.{statement}
 use Rattle.step_pending.proofs.pending.due.Tie as tie
 
-returns : tie.Need-returns
-unfolding pending.due
-returns c = rw (← c .before .pre .1, yes-eq (c .if1 .taken))
-
-returns-2 : tie.Need-returns-2
-unfolding pending.due
-returns-2 c = rw (← c .before .before .pre .1, no-eq (c .before .if1 .left), ← c .later .ensures)
-
 pub due-spec : {M : Type 1} → statement M
+unfolding pending.due
 due-spec =
-    tie.close
-    (tie.spec
+    tie.close (tie.spec
     (λ c. search needs)
-    returns
-    (λ c. search needs)
-    (λ c. search needs)
-    (λ c. search needs)
-    (λ c. search needs)
-    (λ c. search needs)
-    (λ c. search needs)
+    (λ c. rw (← c .before .pre .1, yes-eq (c .if1 .taken)))
+    (λ c. search needs) (λ c. search needs) (λ c. search needs) (λ c. search needs) (λ c. search needs) (λ c. search needs)
     (λ c κs. search needs)
-    returns-2)
+    (λ c. rw (← c .before .before .pre .1, no-eq (c .before .if1 .left), ← c .later .ensures)))

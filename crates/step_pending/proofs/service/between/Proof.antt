@@ -3,8 +3,5 @@ use mathlib.Core.Path.{refl}
 use Rattle.step_pending.proofs.service.between.Statement.{statement}
 use Rattle.step_pending.proofs.service.between.Tie as tie
 
-returns : tie.Need-returns
-returns c = refl
-
 pub between-spec : {M : Type 1} → statement M
-between-spec = tie.close (tie.spec (λ c. search needs) returns)
+between-spec = tie.close (tie.spec (λ c. search needs) (λ c. refl))

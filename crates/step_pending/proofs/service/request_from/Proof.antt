@@ -17,30 +17,6 @@ abbrev μ-loop : tie.MeasureT-loop
 loop-holds : tie.Need-loop-holds Inv-loop μ-loop
 loop-holds c = (refl, search needs)
 
-mul-k : tie.Need-mul-k Inv-loop μ-loop
-mul-k c = search needs
-
-add-k : tie.Need-add-k Inv-loop μ-loop
-add-k c = search needs
-
-mul-if1 : tie.Need-mul-if1 Inv-loop μ-loop
-mul-if1 c = search needs
-
-element-copy-out-if1 : tie.Need-element-copy-out-if1 Inv-loop μ-loop
-element-copy-out-if1 c = search needs
-
-add-if1 : tie.Need-add-if1 Inv-loop μ-loop
-add-if1 c = search needs
-
-add-at : tie.Need-add-at Inv-loop μ-loop
-add-at c = search needs
-
-sub-left : tie.Need-sub-left Inv-loop μ-loop
-sub-left c = search needs
-
-loop-less : tie.Need-loop-less Inv-loop μ-loop
-loop-less c = search needs
-
 loop-again : tie.Need-loop-again Inv-loop μ-loop
 loop-again c =
     let l = c .before .before .before .loop in
@@ -51,11 +27,18 @@ returns c =
     let l = c .before .before .before .loop in
     sym (l .inv .0 ∙ found-here _ _ _ (l .left - 1) (omega arith) (c .if1 .left))
 
-cast-result : tie.Need-cast-result Inv-loop μ-loop
-cast-result c = search needs
-
 returns-2 : tie.Need-returns-2 Inv-loop μ-loop
 returns-2 c = sym (c .before .loop .inv .0 ∙ search-ends _ _ _ (omega arith))
 
 pub request-from-spec : {M : Type 1} → statement M
-request-from-spec = tie.close (tie.spec Inv-loop μ-loop loop-holds mul-k add-k mul-if1 element-copy-out-if1 add-if1 add-at sub-left loop-less loop-again returns cast-result returns-2)
+request-from-spec =
+    tie.close (tie.spec
+    Inv-loop
+    μ-loop
+    loop-holds
+    (λ c. search needs) (λ c. search needs) (λ c. search needs) (λ c. search needs) (λ c. search needs) (λ c. search needs)
+    (λ c. search needs) (λ c. search needs)
+    loop-again
+    returns
+    (λ c. search needs)
+    returns-2)

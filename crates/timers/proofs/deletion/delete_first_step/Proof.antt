@@ -3,9 +3,18 @@ use Rattle.rules.specs.Timers.{deleteFirstStep}
 use Rattle.timers.proofs.deletion.delete_first_step.Statement.{statement}
 use Rattle.timers.proofs.deletion.delete_first_step.Tie as tie
 
-returns : tie.Need-returns
-unfolding deleteFirstStep
-returns c = (rw (← c .before .before .before .before .level .ensures .0, ← c .before .before .before .t-enabled .ensures, ← c .before .before .lower .ensures .0, ← c .before .tptr-loc .ensures) (c .delete-walk .ensures .0), search needs)
-
 pub delete-first-step-spec : {M : Type 1} → statement M
-delete-first-step-spec = tie.close (tie.spec (λ c. search needs) (λ c κs. search needs) (λ c κs. search needs) (λ c κs. search needs) (λ c. search needs) (λ c κs. search needs) (λ c κs. search needs) returns)
+unfolding deleteFirstStep
+delete-first-step-spec =
+    tie.close (tie.spec
+    (λ c. search needs) (λ c κs. search needs) (λ c κs. search needs) (λ c κs. search needs) (λ c. search needs) (λ c κs. search needs)
+    (λ c κs. search needs)
+    (λ c. (
+      rw (
+        ← c .before .before .before .before .level .ensures .0,
+        ← c .before .before .before .t-enabled .ensures,
+        ← c .before .before .lower .ensures .0,
+        ← c .before .tptr-loc .ensures,
+      ) (c .delete-walk .ensures .0),
+      search needs,
+    )))

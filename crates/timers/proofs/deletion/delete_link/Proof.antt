@@ -3,9 +3,9 @@ use Rattle.rules.specs.Timers.{deleteLink}
 use Rattle.timers.proofs.deletion.delete_link.Statement.{statement}
 use Rattle.timers.proofs.deletion.delete_link.Tie as tie
 
-returns : tie.Need-returns
-unfolding deleteLink
-returns c = (rw (← c .before .w-index-word .ensures .0) (c .w-index-word2 .ensures .0), search needs)
-
 pub delete-link-spec : {M : Type 1} → statement M
-delete-link-spec = tie.close (tie.spec (λ c. search needs) (λ c. search needs) (λ c κs. search needs) (λ c κs. search needs) returns)
+unfolding deleteLink
+delete-link-spec =
+    tie.close (tie.spec
+    (λ c. search needs) (λ c. search needs) (λ c κs. search needs) (λ c κs. search needs)
+    (λ c. (rw (← c .before .w-index-word .ensures .0) (c .w-index-word2 .ensures .0), search needs)))

@@ -4,13 +4,19 @@ use Rattle.rules.specs.Timers.{dist}
 use Rattle.timers.proofs.guards.dist.Statement.{statement}
 use Rattle.timers.proofs.guards.dist.Tie as tie
 
-returns : tie.Need-returns
-unfolding dist
-returns c = (rw (yes-eq (c .before .if1 .taken)) (c .put .ensures .0), search needs)
-
-returns-2 : tie.Need-returns-2
-unfolding dist
-returns-2 c = (rw (no-eq (c .before .before .before .before .before .if1 .left), ← c .before .before .before .at-word .ensures, ← c .before .before .word-at .ensures, ← c .before .load-word .ensures .0) (c .dist-link .ensures .0), search needs)
-
 pub dist-spec : {M : Type 1} → statement M
-dist-spec = tie.close (tie.spec (λ c. search needs) (λ c κs. search needs) returns (λ c. search needs) (λ c κs. search needs) (λ c κs. search needs) (λ c κs. search needs) (λ c κs. search needs) returns-2)
+unfolding dist
+dist-spec =
+    tie.close (tie.spec
+    (λ c. search needs) (λ c κs. search needs)
+    (λ c. (rw (yes-eq (c .before .if1 .taken)) (c .put .ensures .0), search needs))
+    (λ c. search needs) (λ c κs. search needs) (λ c κs. search needs) (λ c κs. search needs) (λ c κs. search needs)
+    (λ c. (
+      rw (
+        no-eq (c .before .before .before .before .before .if1 .left),
+        ← c .before .before .before .at-word .ensures,
+        ← c .before .before .word-at .ensures,
+        ← c .before .load-word .ensures .0,
+      ) (c .dist-link .ensures .0),
+      search needs,
+    )))

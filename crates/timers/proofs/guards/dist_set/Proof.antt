@@ -4,13 +4,19 @@ use Rattle.rules.specs.Timers.{distSet}
 use Rattle.timers.proofs.guards.dist_set.Statement.{statement}
 use Rattle.timers.proofs.guards.dist_set.Tie as tie
 
-returns : tie.Need-returns
-unfolding distSet
-returns c = (rw (yes-eq (c .before .before .before .before .before .if1 .taken), ← c .before .before .before .at-word .ensures, ← c .before .before .word-at .ensures, ← c .before .load-word .ensures .0) (c .dist-ready .ensures .0), search needs)
-
-returns-2 : tie.Need-returns-2
-unfolding distSet
-returns-2 c = (rw (no-eq (c .before .before .if1 .left), ← c .before .delete-first-step .ensures .0) (c .put .ensures .0), search needs)
-
 pub dist-set-spec : {M : Type 1} → statement M
-dist-set-spec = tie.close (tie.spec (λ c. search needs) (λ c κs. search needs) (λ c κs. search needs) (λ c κs. search needs) (λ c κs. search needs) returns (λ c κs. search needs) (λ c κs. search needs) returns-2)
+unfolding distSet
+dist-set-spec =
+    tie.close (tie.spec
+    (λ c. search needs) (λ c κs. search needs) (λ c κs. search needs) (λ c κs. search needs) (λ c κs. search needs)
+    (λ c. (
+      rw (
+        yes-eq (c .before .before .before .before .before .if1 .taken),
+        ← c .before .before .before .at-word .ensures,
+        ← c .before .before .word-at .ensures,
+        ← c .before .load-word .ensures .0,
+      ) (c .dist-ready .ensures .0),
+      search needs,
+    ))
+    (λ c κs. search needs) (λ c κs. search needs)
+    (λ c. (rw (no-eq (c .before .before .if1 .left), ← c .before .delete-first-step .ensures .0) (c .put .ensures .0), search needs)))

@@ -3,9 +3,9 @@ use Rattle.rules.specs.Timers.{enbt}
 use Rattle.timers.proofs.guards.enbt.Statement.{statement}
 use Rattle.timers.proofs.guards.enbt.Tie as tie
 
-returns : tie.Need-returns
-unfolding enbt
-returns c = (rw (← c .before .enbt-guard .ensures .0) (c .drop-b .ensures .0), search needs)
-
 pub enbt-spec : {M : Type 1} → statement M
-enbt-spec = tie.close (tie.spec (λ c κs. search needs) (λ c κs. search needs) returns)
+unfolding enbt
+enbt-spec =
+    tie.close (tie.spec
+    (λ c κs. search needs) (λ c κs. search needs)
+    (λ c. (rw (← c .before .enbt-guard .ensures .0) (c .drop-b .ensures .0), search needs)))

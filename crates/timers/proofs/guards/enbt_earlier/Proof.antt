@@ -3,13 +3,13 @@ use Rattle.rules.specs.Timers.{enbtEarlier}
 use Rattle.timers.proofs.guards.enbt_earlier.Statement.{statement}
 use Rattle.timers.proofs.guards.enbt_earlier.Tie as tie
 
-returns : tie.Need-returns
-unfolding enbtEarlier
-returns c = (rw (← c .before .before .before .before .later .ensures, c .before .before .before .if1 .taken) (c .w-index-word .ensures .0), search needs)
-
-returns-2 : tie.Need-returns-2
-unfolding enbtEarlier
-returns-2 c = (rw (← c .before .later .ensures, c .if1 .left), search needs)
-
 pub enbt-earlier-spec : {M : Type 1} → statement M
-enbt-earlier-spec = tie.close (tie.spec (λ c. search needs) (λ c κs. search needs) (λ c. search needs) (λ c. search needs) (λ c κs. search needs) returns returns-2)
+unfolding enbtEarlier
+enbt-earlier-spec =
+    tie.close (tie.spec
+    (λ c. search needs) (λ c κs. search needs) (λ c. search needs) (λ c. search needs) (λ c κs. search needs)
+    (λ c. (
+      rw (← c .before .before .before .before .later .ensures, c .before .before .before .if1 .taken) (c .w-index-word .ensures .0),
+      search needs,
+    ))
+    (λ c. (rw (← c .before .later .ensures, c .if1 .left), search needs)))

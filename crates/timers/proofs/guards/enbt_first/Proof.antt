@@ -3,9 +3,9 @@ use Rattle.rules.specs.Timers.{enbtFirst}
 use Rattle.timers.proofs.guards.enbt_first.Statement.{statement}
 use Rattle.timers.proofs.guards.enbt_first.Tie as tie
 
-returns : tie.Need-returns
-unfolding enbtFirst
-returns c = (rw (← c .before .before .w-index-word .ensures .0) (c .w-index-word2 .ensures .0), search needs)
-
 pub enbt-first-spec : {M : Type 1} → statement M
-enbt-first-spec = tie.close (tie.spec (λ c. search needs) (λ c κs. search needs) (λ c. search needs) (λ c κs. search needs) returns)
+unfolding enbtFirst
+enbt-first-spec =
+    tie.close (tie.spec
+    (λ c. search needs) (λ c κs. search needs) (λ c. search needs) (λ c κs. search needs)
+    (λ c. (rw (← c .before .before .w-index-word .ensures .0) (c .w-index-word2 .ensures .0), search needs)))

@@ -4,13 +4,19 @@ use Rattle.rules.specs.Timers.{enbtGuard}
 use Rattle.timers.proofs.guards.enbt_guard.Statement.{statement}
 use Rattle.timers.proofs.guards.enbt_guard.Tie as tie
 
-returns : tie.Need-returns
-unfolding enbtGuard
-returns c = (rw (yes-eq (c .if1 .taken)), search needs)
-
-returns-2 : tie.Need-returns-2
-unfolding enbtGuard
-returns-2 c = (rw (no-eq (c .before .before .before .before .before .if1 .left), ← c .before .before .before .at-word .ensures, ← c .before .before .word-at .ensures, ← c .before .load-word .ensures .0) (c .enbt-link .ensures .0), search needs)
-
 pub enbt-guard-spec : {M : Type 1} → statement M
-enbt-guard-spec = tie.close (tie.spec (λ c. search needs) returns (λ c. search needs) (λ c κs. search needs) (λ c κs. search needs) (λ c κs. search needs) (λ c κs. search needs) returns-2)
+unfolding enbtGuard
+enbt-guard-spec =
+    tie.close (tie.spec
+    (λ c. search needs)
+    (λ c. (rw (yes-eq (c .if1 .taken)), search needs))
+    (λ c. search needs) (λ c κs. search needs) (λ c κs. search needs) (λ c κs. search needs) (λ c κs. search needs)
+    (λ c. (
+      rw (
+        no-eq (c .before .before .before .before .before .if1 .left),
+        ← c .before .before .before .at-word .ensures,
+        ← c .before .before .word-at .ensures,
+        ← c .before .load-word .ensures .0,
+      ) (c .enbt-link .ensures .0),
+      search needs,
+    )))

@@ -3,9 +3,16 @@ use Rattle.rules.specs.Timers.{insertFinalStep}
 use Rattle.timers.proofs.insertion.insert_final_step.Statement.{statement}
 use Rattle.timers.proofs.insertion.insert_final_step.Tie as tie
 
-returns : tie.Need-returns
-unfolding insertFinalStep
-returns c = (rw (← c .before .before .before .insert-link .ensures .0, ← c .before .before .put .ensures .0, ← c .before .r-index-word .ensures .0) (c .insert-next .ensures .0), search needs)
-
 pub insert-final-step-spec : {M : Type 1} → statement M
-insert-final-step-spec = tie.close (tie.spec (λ c. search needs) (λ c κs. search needs) (λ c κs. search needs) (λ c κs. search needs) (λ c κs. search needs) returns)
+unfolding insertFinalStep
+insert-final-step-spec =
+    tie.close (tie.spec
+    (λ c. search needs) (λ c κs. search needs) (λ c κs. search needs) (λ c κs. search needs) (λ c κs. search needs)
+    (λ c. (
+      rw (
+        ← c .before .before .before .insert-link .ensures .0,
+        ← c .before .before .put .ensures .0,
+        ← c .before .r-index-word .ensures .0,
+      ) (c .insert-next .ensures .0),
+      search needs,
+    )))

@@ -3,9 +3,12 @@ use Rattle.rules.specs.Timers.{insertLink}
 use Rattle.timers.proofs.insertion.insert_link.Statement.{statement}
 use Rattle.timers.proofs.insertion.insert_link.Tie as tie
 
-returns : tie.Need-returns
-unfolding insertLink
-returns c = (rw (← c .before .before .w-index-word .ensures .0, ← c .before .w-index-word2 .ensures .0) (c .save-iptr .ensures .0), search needs)
-
 pub insert-link-spec : {M : Type 1} → statement M
-insert-link-spec = tie.close (tie.spec (λ c. search needs) (λ c κs. search needs) (λ c κs. search needs) (λ c κs. search needs) returns)
+unfolding insertLink
+insert-link-spec =
+    tie.close (tie.spec
+    (λ c. search needs) (λ c κs. search needs) (λ c κs. search needs) (λ c κs. search needs)
+    (λ c. (
+      rw (← c .before .before .w-index-word .ensures .0, ← c .before .w-index-word2 .ensures .0) (c .save-iptr .ensures .0),
+      search needs,
+    )))

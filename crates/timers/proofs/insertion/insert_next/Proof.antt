@@ -3,9 +3,9 @@ use Rattle.rules.specs.Timers.{insertNext}
 use Rattle.timers.proofs.insertion.insert_next.Statement.{statement}
 use Rattle.timers.proofs.insertion.insert_next.Tie as tie
 
-returns : tie.Need-returns
-unfolding insertNext
-returns c = (rw (← c .before .before .before .level .ensures .0, ← c .before .set-next .ensures .0) (c .goto-snp .ensures .0), search needs)
-
 pub insert-next-spec : {M : Type 1} → statement M
-insert-next-spec = tie.close (tie.spec (λ c. search needs) (λ c κs. search needs) (λ c. search needs) (λ c κs. search needs) (λ c κs. search needs) returns)
+unfolding insertNext
+insert-next-spec =
+    tie.close (tie.spec
+    (λ c. search needs) (λ c κs. search needs) (λ c. search needs) (λ c κs. search needs) (λ c κs. search needs)
+    (λ c. (rw (← c .before .before .before .level .ensures .0, ← c .before .set-next .ensures .0) (c .goto-snp .ensures .0), search needs)))

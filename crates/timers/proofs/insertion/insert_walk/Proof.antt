@@ -18,41 +18,11 @@ abbrev μ-loop : tie.MeasureT-loop
 loop-holds : tie.Need-loop-holds Inv-loop μ-loop
 loop-holds c = (refl, search needs)
 
-word-at-requires : tie.Need-word-at-requires Inv-loop μ-loop
-word-at-requires c κs = search needs
-
-load-word-requires : tie.Need-load-word-requires Inv-loop μ-loop
-load-word-requires c κs = search needs
-
-insert-final-step-requires : tie.Need-insert-final-step-requires Inv-loop μ-loop
-insert-final-step-requires c κs = search needs
-
 returns : tie.Need-returns Inv-loop μ-loop
 returns c =
     let e = c .before .before in
     let l = e .before .before .before .loop in
     (c .insert-final-step .ensures .0 ∙ sym (l .inv .0 ∙ insert-end _ _ _ (l .left - 1) _ _ _ _ (omega arith) (e .before .word-at .ensures) (e .load-word .ensures .0) (c .before .if1 .taken)), search needs)
-
-at-word-requires : tie.Need-at-word-requires Inv-loop μ-loop
-at-word-requires c κs = search needs
-
-word-at-requires-2 : tie.Need-word-at-requires-2 Inv-loop μ-loop
-word-at-requires-2 c κs = search needs
-
-load-word-requires-2 : tie.Need-load-word-requires-2 Inv-loop μ-loop
-load-word-requires-2 c κs = search needs
-
-later-requires : tie.Need-later-requires Inv-loop μ-loop
-later-requires c κs = search needs
-
-at-word-requires-2 : tie.Need-at-word-requires-2 Inv-loop μ-loop
-at-word-requires-2 c κs = search needs
-
-sub-left : tie.Need-sub-left Inv-loop μ-loop
-sub-left c = search needs
-
-loop-less : tie.Need-loop-less Inv-loop μ-loop
-loop-less c = search needs
 
 loop-again : tie.Need-loop-again Inv-loop μ-loop
 loop-again c =
@@ -62,9 +32,6 @@ loop-again c =
     let l = e .before .before .before .loop in
     (l .inv .0 ∙ insert-on _ _ _ (l .left - 1) _ _ _ _ (omega arith) (e .before .word-at .ensures) (e .load-word .ensures .0) _ _ _ (f .if1 .left) (b .before .before .before .at-word .ensures) (b .before .before .word-at2 .ensures) (b .before .load-word2 .ensures .0) _ (c .at-word2 .ensures) (sym (b .later .ensures) ∙ c .before .if2 .taken), search needs)
 
-insert-final-step-requires-2 : tie.Need-insert-final-step-requires-2 Inv-loop μ-loop
-insert-final-step-requires-2 c κs = search needs
-
 returns-2 : tie.Need-returns-2 Inv-loop μ-loop
 returns-2 c =
     let b = c .before .before in
@@ -73,13 +40,23 @@ returns-2 c =
     let l = e .before .before .before .loop in
     (c .insert-final-step2 .ensures .0 ∙ sym (l .inv .0 ∙ insert-here _ _ _ (l .left - 1) _ _ _ _ (omega arith) (e .before .word-at .ensures) (e .load-word .ensures .0) _ _ _ (f .if1 .left) (b .before .before .before .at-word .ensures) (b .before .before .word-at2 .ensures) (b .before .load-word2 .ensures .0) (sym (b .later .ensures) ∙ c .before .if2 .left)), search needs)
 
-refuse-requires : tie.Need-refuse-requires Inv-loop μ-loop
-refuse-requires c κs = search needs
-
 returns-3 : tie.Need-returns-3 Inv-loop μ-loop
 returns-3 c =
     let l = c .before .before .loop in
     (c .refuse .ensures .0 ∙ sym (l .inv .0 ∙ insert-out _ _ _ _ _ (omega arith)), search needs)
 
 pub insert-walk-spec : {M : Type 1} → statement M
-insert-walk-spec = tie.close (tie.spec Inv-loop μ-loop loop-holds word-at-requires load-word-requires insert-final-step-requires returns at-word-requires word-at-requires-2 load-word-requires-2 later-requires at-word-requires-2 sub-left loop-less loop-again insert-final-step-requires-2 returns-2 refuse-requires returns-3)
+insert-walk-spec =
+    tie.close (tie.spec
+    Inv-loop
+    μ-loop
+    loop-holds
+    (λ c κs. search needs) (λ c κs. search needs) (λ c κs. search needs)
+    returns
+    (λ c κs. search needs) (λ c κs. search needs) (λ c κs. search needs) (λ c κs. search needs) (λ c κs. search needs) (λ c. search needs)
+    (λ c. search needs)
+    loop-again
+    (λ c κs. search needs)
+    returns-2
+    (λ c κs. search needs)
+    returns-3)

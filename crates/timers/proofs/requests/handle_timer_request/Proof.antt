@@ -3,9 +3,9 @@ use Rattle.rules.specs.Timers.{handleTimerRequest}
 use Rattle.timers.proofs.requests.handle_timer_request.Statement.{statement}
 use Rattle.timers.proofs.requests.handle_timer_request.Tie as tie
 
-returns : tie.Need-returns
-unfolding handleTimerRequest
-returns c = (rw (← c .before .before .t-enabled .ensures, ← c .before .lower .ensures .0) (c .timer-serve .ensures .0), search needs)
-
 pub handle-timer-request-spec : {M : Type 1} → statement M
-handle-timer-request-spec = tie.close (tie.spec (λ c κs. search needs) (λ c κs. search needs) (λ c κs. search needs) returns)
+unfolding handleTimerRequest
+handle-timer-request-spec =
+    tie.close (tie.spec
+    (λ c κs. search needs) (λ c κs. search needs) (λ c κs. search needs)
+    (λ c. (rw (← c .before .before .t-enabled .ensures, ← c .before .lower .ensures .0) (c .timer-serve .ensures .0), search needs)))

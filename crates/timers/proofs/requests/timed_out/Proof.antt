@@ -3,9 +3,9 @@ use Rattle.rules.specs.Timers.{timedOut}
 use Rattle.timers.proofs.requests.timed_out.Statement.{statement}
 use Rattle.timers.proofs.requests.timed_out.Tie as tie
 
-returns : tie.Need-returns
-unfolding timedOut
-returns c = (rw (← c .before .w-index-word .ensures .0) (c .run .ensures .0), search needs)
-
 pub timed-out-spec : {M : Type 1} → statement M
-timed-out-spec = tie.close (tie.spec (λ c. search needs) (λ c κs. search needs) (λ c κs. search needs) returns)
+unfolding timedOut
+timed-out-spec =
+    tie.close (tie.spec
+    (λ c. search needs) (λ c κs. search needs) (λ c κs. search needs)
+    (λ c. (rw (← c .before .w-index-word .ensures .0) (c .run .ensures .0), search needs)))

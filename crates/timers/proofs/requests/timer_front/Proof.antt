@@ -3,9 +3,17 @@ use Rattle.rules.specs.Timers.{timerFront}
 use Rattle.timers.proofs.requests.timer_front.Statement.{statement}
 use Rattle.timers.proofs.requests.timer_front.Tie as tie
 
-returns : tie.Need-returns
-unfolding timerFront
-returns c = (rw (← c .before .before .before .before .at-word .ensures, ← c .before .before .before .word-at .ensures, ← c .before .before .load-word .ensures .0, ← c .before .timer-unlink .ensures .0) (c .timer-wake .ensures .0), search needs)
-
 pub timer-front-spec : {M : Type 1} → statement M
-timer-front-spec = tie.close (tie.spec (λ c κs. search needs) (λ c κs. search needs) (λ c κs. search needs) (λ c κs. search needs) (λ c κs. search needs) returns)
+unfolding timerFront
+timer-front-spec =
+    tie.close (tie.spec
+    (λ c κs. search needs) (λ c κs. search needs) (λ c κs. search needs) (λ c κs. search needs) (λ c κs. search needs)
+    (λ c. (
+      rw (
+        ← c .before .before .before .before .at-word .ensures,
+        ← c .before .before .before .word-at .ensures,
+        ← c .before .before .load-word .ensures .0,
+        ← c .before .timer-unlink .ensures .0,
+      ) (c .timer-wake .ensures .0),
+      search needs,
+    )))

@@ -3,9 +3,13 @@ use Rattle.rules.specs.Timers.{timerServe}
 use Rattle.timers.proofs.requests.timer_serve.Statement.{statement}
 use Rattle.timers.proofs.requests.timer_serve.Tie as tie
 
-returns : tie.Need-returns
-unfolding timerServe
-returns c = (rw (← c .before .before .before .tptr-loc .ensures, ← c .before .before .word-at .ensures, ← c .before .load-word .ensures .0) (c .timer-front .ensures .0), search needs)
-
 pub timer-serve-spec : {M : Type 1} → statement M
-timer-serve-spec = tie.close (tie.spec (λ c κs. search needs) (λ c κs. search needs) (λ c κs. search needs) (λ c κs. search needs) returns)
+unfolding timerServe
+timer-serve-spec =
+    tie.close (tie.spec
+    (λ c κs. search needs) (λ c κs. search needs) (λ c κs. search needs) (λ c κs. search needs)
+    (λ c. (
+      rw (← c .before .before .before .tptr-loc .ensures, ← c .before .before .word-at .ensures, ← c .before .load-word .ensures .0)
+          (c .timer-front .ensures .0),
+      search needs,
+    )))

@@ -3,9 +3,12 @@ use Rattle.rules.specs.Timers.{timerUnlink}
 use Rattle.timers.proofs.requests.timer_unlink.Statement.{statement}
 use Rattle.timers.proofs.requests.timer_unlink.Tie as tie
 
-returns : tie.Need-returns
-unfolding timerUnlink
-returns c = (rw (← c .before .before .w-index-word .ensures .0, ← c .before .w-index-word2 .ensures .0) (c .timer-next .ensures .0), search needs)
-
 pub timer-unlink-spec : {M : Type 1} → statement M
-timer-unlink-spec = tie.close (tie.spec (λ c κs. search needs) (λ c. search needs) (λ c κs. search needs) (λ c κs. search needs) returns)
+unfolding timerUnlink
+timer-unlink-spec =
+    tie.close (tie.spec
+    (λ c κs. search needs) (λ c. search needs) (λ c κs. search needs) (λ c κs. search needs)
+    (λ c. (
+      rw (← c .before .before .w-index-word .ensures .0, ← c .before .w-index-word2 .ensures .0) (c .timer-next .ensures .0),
+      search needs,
+    )))

@@ -3,9 +3,13 @@ use Rattle.rules.specs.Timers.{timerWake}
 use Rattle.timers.proofs.requests.timer_wake.Statement.{statement}
 use Rattle.timers.proofs.requests.timer_wake.Tie as tie
 
-returns : tie.Need-returns
-unfolding timerWake
-returns c = (rw (← c .before .before .before .at-word .ensures, ← c .before .before .word-at .ensures, ← c .before .load-word .ensures .0) (c .timer-status .ensures .0), search needs)
-
 pub timer-wake-spec : {M : Type 1} → statement M
-timer-wake-spec = tie.close (tie.spec (λ c κs. search needs) (λ c κs. search needs) (λ c κs. search needs) (λ c κs. search needs) returns)
+unfolding timerWake
+timer-wake-spec =
+    tie.close (tie.spec
+    (λ c κs. search needs) (λ c κs. search needs) (λ c κs. search needs) (λ c κs. search needs)
+    (λ c. (
+      rw (← c .before .before .before .at-word .ensures, ← c .before .before .word-at .ensures, ← c .before .load-word .ensures .0)
+          (c .timer-status .ensures .0),
+      search needs,
+    )))

@@ -3,9 +3,9 @@ use Rattle.rules.specs.Timers.{nextTime}
 use Rattle.timers.proofs.timer_queue.next_time.Statement.{statement}
 use Rattle.timers.proofs.timer_queue.next_time.Tie as tie
 
-returns : tie.Need-returns
-unfolding nextTime
-returns c = (rw (← c .before .wrap-add .ensures) (c .put .ensures .0), search needs)
-
 pub next-time-spec : {M : Type 1} → statement M
-next-time-spec = tie.close (tie.spec (λ c. search needs) (λ c κs. search needs) (λ c κs. search needs) returns)
+unfolding nextTime
+next-time-spec =
+    tie.close (tie.spec
+    (λ c. search needs) (λ c κs. search needs) (λ c κs. search needs)
+    (λ c. (rw (← c .before .wrap-add .ensures) (c .put .ensures .0), search needs)))

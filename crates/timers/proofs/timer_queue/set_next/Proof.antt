@@ -3,9 +3,9 @@ use Rattle.rules.specs.Timers.{setNext}
 use Rattle.timers.proofs.timer_queue.set_next.Statement.{statement}
 use Rattle.timers.proofs.timer_queue.set_next.Tie as tie
 
-returns : tie.Need-returns
-unfolding setNext
-returns c = (rw (← c .before .before .r-index-word .ensures .0, ← c .before .t-enabled .ensures) (c .raise .ensures .0), search needs)
-
 pub set-next-spec : {M : Type 1} → statement M
-set-next-spec = tie.close (tie.spec (λ c. search needs) (λ c κs. search needs) (λ c κs. search needs) (λ c κs. search needs) returns)
+unfolding setNext
+set-next-spec =
+    tie.close (tie.spec
+    (λ c. search needs) (λ c κs. search needs) (λ c κs. search needs) (λ c κs. search needs)
+    (λ c. (rw (← c .before .before .r-index-word .ensures .0, ← c .before .t-enabled .ensures) (c .raise .ensures .0), search needs)))

@@ -3,9 +3,9 @@ use Rattle.rules.specs.Timers.{talt}
 use Rattle.timers.proofs.waits.talt.Statement.{statement}
 use Rattle.timers.proofs.waits.talt.Tie as tie
 
-returns : tie.Need-returns
-unfolding talt
-returns c = (rw (← c .before .w-index-word .ensures .0) (c .w-index-word2 .ensures .0), search needs)
-
 pub talt-spec : {M : Type 1} → statement M
-talt-spec = tie.close (tie.spec (λ c. search needs) (λ c κs. search needs) (λ c κs. search needs) returns)
+unfolding talt
+talt-spec =
+    tie.close (tie.spec
+    (λ c. search needs) (λ c κs. search needs) (λ c κs. search needs)
+    (λ c. (rw (← c .before .w-index-word .ensures .0) (c .w-index-word2 .ensures .0), search needs)))

@@ -3,13 +3,29 @@ use Rattle.rules.specs.Timers.{taltwtTime}
 use Rattle.timers.proofs.waits.taltwt_time.Statement.{statement}
 use Rattle.timers.proofs.waits.taltwt_time.Tie as tie
 
-returns : tie.Need-returns
-unfolding taltwtTime
-returns c = (rw (← c .before .before .before .before .before .before .before .level .ensures .0, ← c .before .before .before .before .later .ensures, c .before .before .before .if1 .taken, ← c .before .w-index-word .ensures .0) (c .time-now .ensures .0), search needs)
-
-returns-2 : tie.Need-returns-2
-unfolding taltwtTime
-returns-2 c = (rw (← c .before .before .before .before .before .before .level .ensures .0, ← c .before .before .before .later .ensures, c .before .before .if1 .left, ← c .before .next-time .ensures .0) (c .insert-first-step .ensures .0), search needs)
-
 pub taltwt-time-spec : {M : Type 1} → statement M
-taltwt-time-spec = tie.close (tie.spec (λ c. search needs) (λ c κs. search needs) (λ c. search needs) (λ c. search needs) (λ c. search needs) (λ c. search needs) (λ c κs. search needs) (λ c. search needs) (λ c κs. search needs) (λ c κs. search needs) returns (λ c κs. search needs) (λ c κs. search needs) returns-2)
+unfolding taltwtTime
+taltwt-time-spec =
+    tie.close (tie.spec
+    (λ c. search needs) (λ c κs. search needs) (λ c. search needs) (λ c. search needs) (λ c. search needs) (λ c. search needs)
+    (λ c κs. search needs) (λ c. search needs) (λ c κs. search needs) (λ c κs. search needs)
+    (λ c. (
+      rw (
+        ← c .before .before .before .before .before .before .before .level .ensures .0,
+        ← c .before .before .before .before .later .ensures,
+        c .before .before .before .if1 .taken,
+        ← c .before .w-index-word .ensures .0,
+      )
+          (c .time-now .ensures .0),
+      search needs,
+    ))
+    (λ c κs. search needs) (λ c κs. search needs)
+    (λ c. (
+      rw (
+        ← c .before .before .before .before .before .before .level .ensures .0,
+        ← c .before .before .before .later .ensures,
+        c .before .before .if1 .left,
+        ← c .before .next-time .ensures .0,
+      ) (c .insert-first-step .ensures .0),
+      search needs,
+    )))

@@ -3,9 +3,10 @@ use Rattle.rules.specs.Timers.{timeNow}
 use Rattle.timers.proofs.waits.time_now.Statement.{statement}
 use Rattle.timers.proofs.waits.time_now.Tie as tie
 
-returns : tie.Need-returns
-unfolding timeNow
-returns c = (rw (← c .before .before .level .ensures .0) (c .w-index-word .ensures .0), search needs)
-
 pub time-now-spec : {M : Type 1} → statement M
-time-now-spec = tie.close (tie.spec (λ c. search needs) (λ c. search needs) (λ c κs. search needs) (λ c. search needs) (λ c. search needs) (λ c. search needs) (λ c κs. search needs) returns)
+unfolding timeNow
+time-now-spec =
+    tie.close (tie.spec
+    (λ c. search needs) (λ c. search needs) (λ c κs. search needs) (λ c. search needs) (λ c. search needs) (λ c. search needs)
+    (λ c κs. search needs)
+    (λ c. (rw (← c .before .before .level .ensures .0) (c .w-index-word .ensures .0), search needs)))

@@ -3,13 +3,20 @@ use Rattle.rules.specs.Timers.{tin}
 use Rattle.timers.proofs.waits.tin.Statement.{statement}
 use Rattle.timers.proofs.waits.tin.Tie as tie
 
-returns : tie.Need-returns
-unfolding tin
-returns c = (rw (← c .before .before .before .before .level .ensures .0, ← c .before .later .ensures, c .if1 .taken), search needs)
-
-returns-2 : tie.Need-returns-2
-unfolding tin
-returns-2 c = (rw (← c .before .before .before .before .before .before .level .ensures .0, ← c .before .before .before .later .ensures, c .before .before .if1 .left, ← c .before .next-time .ensures .0) (c .insert-first-step .ensures .0), search needs)
-
 pub tin-spec : {M : Type 1} → statement M
-tin-spec = tie.close (tie.spec (λ c. search needs) (λ c κs. search needs) (λ c. search needs) (λ c. search needs) (λ c. search needs) (λ c. search needs) (λ c κs. search needs) returns (λ c κs. search needs) (λ c κs. search needs) returns-2)
+unfolding tin
+tin-spec =
+    tie.close (tie.spec
+    (λ c. search needs) (λ c κs. search needs) (λ c. search needs) (λ c. search needs) (λ c. search needs) (λ c. search needs)
+    (λ c κs. search needs)
+    (λ c. (rw (← c .before .before .before .before .level .ensures .0, ← c .before .later .ensures, c .if1 .taken), search needs))
+    (λ c κs. search needs) (λ c κs. search needs)
+    (λ c. (
+      rw (
+        ← c .before .before .before .before .before .before .level .ensures .0,
+        ← c .before .before .before .later .ensures,
+        c .before .before .if1 .left,
+        ← c .before .next-time .ensures .0,
+      ) (c .insert-first-step .ensures .0),
+      search needs,
+    )))
