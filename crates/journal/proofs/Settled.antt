@@ -21,7 +21,7 @@ use Rattle.laws.proofs.FineStep.{fine-step}
 use Rattle.plan.specs.View.{view}
 use Rattle.plan.specs.declared.Plan.{Plan}
 use Rattle.journal.specs.Checks.{firstBad}
-use Rattle.journal.proofs.Refusing.{passed, fits, frame-good}
+use Rattle.journal.proofs.Refusing.{passed, fits, bounds-good}
 
 -- the requires of `commit_or_refuse`
 pub ready :
@@ -34,7 +34,7 @@ pub ready :
     → (p .answer ≤ 12) × (p .cut ≤ p .n) × (p .n ≤ 16) × (length mem ≤ 16384) × (length j ≤ 65536) × (boundsBad (length j) (m .depth) (m .used) ≡ false)
 ready badChannel m mem j h p k c n =
     let f = fits badChannel m mem j h in
-    (k, c, n, f .0, f .1, frame-good badChannel m mem j h)
+    (k, c, n, f .0, f .1, bounds-good badChannel m mem j h)
 
 -- ---- the outcome of a plan
 

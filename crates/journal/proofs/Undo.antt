@@ -15,7 +15,7 @@ use Rattle.rules.proofs.Tests.{yes-lt, no-lt, no-eq, cases-lt}
 use Rattle.laws.proofs.Stores.{length-stores}
 use Rattle.laws.proofs.Touched.{touched-below, outside-touched, length-record}
 use Rattle.history.proofs.Records.{pairsOf, strays-none, written-back, last-pairs, last-start, last-regs, last-read}
-use Rattle.journal_record.proofs.Frame.{frame-good, frame-is}
+use Rattle.journal_record.proofs.JournalBounds.{bounds-good, bounds-is}
 
 -- the accepted outcome with machine m, memory mem and journal j
 abbrev pub givenBack : Machine → List ℕ → List ℕ → Outcome
@@ -23,7 +23,7 @@ givenBack m mem j = record { answer = 0; byte = 0; machine = m; memory = mem; jo
 
 module _
     (m : Machine) (mem j : List ℕ) (byte : ℕ) (regs : List ℕ) (ss : List Store) (lr : length (m .regs) ≡ registers)
-    (size : sizeBad mem j ≡ false) (frame : boundsBad (length j) (m .depth) (m .used) ≡ false) where
+    (size : sizeBad mem j ≡ false) (bounds : boundsBad (length j) (m .depth) (m .used) ≡ false) where
   abbrev ks : List ℕ
   ks = touched (length mem) ss
 
@@ -74,10 +74,10 @@ module _
     unfolding sizeBad
     size′ = rw (length-stores mem ss, length-sets j (m .used) rec) size
 
-    frame′ : boundsBad (length j′) (m .depth + 1) used′ ≡ false
-    frame′ =
-        let f = frame-good (length j) (m .depth) (m .used) frame in
-        rw (length-sets j (m .used) rec) (frame-is (length j) (m .depth + 1) used′ fit (omega arith))
+    bounds′ : boundsBad (length j′) (m .depth + 1) used′ ≡ false
+    bounds′ =
+        let f = bounds-good (length j) (m .depth) (m .used) bounds in
+        rw (length-sets j (m .used) rec) (bounds-is (length j) (m .depth + 1) used′ fit (omega arith))
 
     back : undo (machineOf regs (m .depth + 1) used′) mem′ j′ ≡ givenBack m mem j′
     unfolding undo checked undoLast undone
@@ -85,7 +85,7 @@ module _
         let deep : m .depth + 1 ≡ 0 → ⊥ = λ e. omega arith in
         let long : recordLength (lastPairs j′ used′) ≤ used′ = omega (arith, count) in
         let d : m .depth + 1 - 1 ≡ m .depth = omega arith in
-        rw (size′, frame′, no-eq deep, no-lt long, start, count, pairs, inside, registers-back, memory-back, d)
+        rw (size′, bounds′, no-eq deep, no-lt long, start, count, pairs, inside, registers-back, memory-back, d)
 
   abbrev done : Outcome
   done = recorded m mem j byte regs ks mem′

@@ -4,7 +4,7 @@ use lib.ListN.{length}
 use mathlib.Core.Bool.{false}
 use Rattle.rules.specs.Registers.{registers}
 use Rattle.rules.specs.Calls.{step}
-use Rattle.journal.proofs.Refusing.{number-known, stopped, passed, fits, frame-good}
+use Rattle.journal.proofs.Refusing.{number-known, stopped, passed, fits, bounds-good}
 use Rattle.t414.proofs.Commons.{common-step-is}
 use borrow.Author.Needs.{needs}
 use Rattle.t414.proofs.step.Statement.{statement}
@@ -33,7 +33,7 @@ commit-common-requires c κs =
     let f = i .before in
     let a = f .before .before .before .args in
     let h = sym (f .first-bad .ensures) ∙ i .if1 .left in
-    (fits false (a .m) (a .mem .now) (a .journal .now) h .1, frame-good false (a .m) (a .mem .now) (a .journal .now) h)
+    (fits false (a .m) (a .mem .now) (a .journal .now) h .1, bounds-good false (a .m) (a .mem .now) (a .journal .now) h)
 
 returns-2 : tie.Need-returns-2
 unfolding step
@@ -58,7 +58,7 @@ planned-requires c κs =
     let a = f .before .before .before .args in
     let h = sym (f .first-bad .ensures) ∙ i .if1 .left in
     let l = fits false (a .m) (a .mem .now) (a .journal .now) h in
-    (l .0, l .1, frame-good false (a .m) (a .mem .now) (a .journal .now) h)
+    (l .0, l .1, bounds-good false (a .m) (a .mem .now) (a .journal .now) h)
 
 returns-3 : tie.Need-returns-3
 unfolding step
@@ -76,7 +76,7 @@ planned-requires-2 c κs =
     let a = f .before .before .before .args in
     let h = sym (f .first-bad .ensures) ∙ i .if1 .left in
     let l = fits false (a .m) (a .mem .now) (a .journal .now) h in
-    (l .0, l .1, frame-good false (a .m) (a .mem .now) (a .journal .now) h)
+    (l .0, l .1, bounds-good false (a .m) (a .mem .now) (a .journal .now) h)
 
 returns-4 : tie.Need-returns-4
 unfolding step

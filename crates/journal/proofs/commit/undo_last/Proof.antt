@@ -4,7 +4,7 @@ use Prim.Native.Nat.{_-_, _*_, _≤_, _<_}
 use lib.ListN.{length}
 use Rattle.rules.specs.Journal.{recordLength}
 use Rattle.rules.specs.declared.Answer.the-variants.{JournalBad}
-use Rattle.journal_record.proofs.Frame.{frame-good}
+use Rattle.journal_record.proofs.JournalBounds.{bounds-good}
 use Rattle.journal_record.proofs.Outcomes.{refusal-is, number-bad, undo-short, undo-stray, undo-done}
 use borrow.Author.Needs.{needs}
 use Rattle.journal.proofs.commit.undo_last.Statement.{statement}
@@ -12,7 +12,7 @@ use Rattle.journal.proofs.commit.undo_last.Tie as tie
 
 -- the bounds of the journal, and a depth above 0
 good : (c : tie.Start) → (c .args .m .used ≤ length (c .args .journal .now)) × (recordLength 0 * c .args .m .depth ≤ c .args .m .used) × (0 < c .args .m .depth)
-good c = let f = frame-good _ _ _ (c .pre .0) in (f .0, f .1, c .pre .1)
+good c = let f = bounds-good _ _ _ (c .pre .0) in (f .0, f .1, c .pre .1)
 
 returns : tie.Need-returns
 returns c =

@@ -20,20 +20,20 @@ same-test a b c d f g =
     ]
 
 module _ (size depth used : ℕ) where
-  pub frame-long : size < used → true ≡ boundsBad size depth used
+  pub bounds-long : size < used → true ≡ boundsBad size depth used
   unfolding boundsBad
-  frame-long h = rw (lt-ltb size used h)
+  bounds-long h = rw (lt-ltb size used h)
 
-  pub frame-deep : used ≤ size → ltb (used / (registers + 1)) depth ≡ boundsBad size depth used
+  pub bounds-deep : used ≤ size → ltb (used / (registers + 1)) depth ≡ boundsBad size depth used
   unfolding boundsBad
-  frame-deep h =
+  bounds-deep h =
       rw (le-ltb size used h)
       (same-test (used / (registers + 1)) depth used (recordLength 0 * depth) (λ k. omega arith) (λ k. omega arith))
 
   -- bounds that are not bad: used is within the journal, and the records within used
-  pub frame-good : boundsBad size depth used ≡ false → (used ≤ size) × (recordLength 0 * depth ≤ used)
+  pub bounds-good : boundsBad size depth used ≡ false → (used ≤ size) × (recordLength 0 * depth ≤ used)
   unfolding boundsBad
-  frame-good e =
+  bounds-good e =
       let f = neither (ltb size used) (ltb used (recordLength 0 * depth)) e in
       (ltb-false size used (f .0), ltb-false used (recordLength 0 * depth) (f .1))
     where
@@ -41,9 +41,9 @@ module _ (size depth used : ℕ) where
       neither true b e = let z : _≡_ {A = ℕ} 0 1 = cc in absurd (omega arith)
       neither false b e = (refl, e)
 
-pub frame-is : (size depth used : ℕ) → used ≤ size → recordLength 0 * depth ≤ used → boundsBad size depth used ≡ false
+pub bounds-is : (size depth used : ℕ) → used ≤ size → recordLength 0 * depth ≤ used → boundsBad size depth used ≡ false
 unfolding boundsBad
-frame-is size depth used h k = rw (le-ltb size used h, le-ltb used (recordLength 0 * depth) k)
+bounds-is size depth used h k = rw (le-ltb size used h, le-ltb used (recordLength 0 * depth) k)
 
 pub full : (size used n : ℕ) → used ≤ size → ltb (size - used) (registers + 1 + 2 * n) ≡ ltb size (used + recordLength n)
 full size used n h =

@@ -100,16 +100,16 @@ record-written j mem regs ks at n e =
 
 -- ---- the outcome of a common step
 
-pub comes :
+pub common-outcome :
     (m : Machine) (mem j : List ℕ) (t : FastStep)
     → recorded m mem j 0 (withCore (t .core) (m .regs)) (touched (length mem) (storesOf t)) (stores mem (storesOf t)) ≡ commitOrRefuse m mem j 0 (fastWork (m .regs) t)
 unfolding commitOrRefuse
-comes m mem j t = rw (yes-eq {a = 0} {b = 0} refl)
+common-outcome m mem j t = rw (yes-eq {a = 0} {b = 0} refl)
 
 pub none-written : (j mem regs : List ℕ) (at : ℕ) → sets j at (regs ++ (0 ∷ [])) ≡ sets j at (recordOf mem regs [])
 unfolding recordOf olds
 none-written j mem regs at = refl
 
-pub comes-regs : (m : Machine) (mem j regs : List ℕ) → recorded m mem j 0 regs [] mem ≡ commitOrRefuse m mem j 0 (begin regs)
+pub regs-outcome : (m : Machine) (mem j regs : List ℕ) → recorded m mem j 0 regs [] mem ≡ commitOrRefuse m mem j 0 (begin regs)
 unfolding commitOrRefuse
-comes-regs m mem j regs = rw (yes-eq {a = 0} {b = 0} refl, touched-none (length mem), stores-no mem)
+regs-outcome m mem j regs = rw (yes-eq {a = 0} {b = 0} refl, touched-none (length mem), stores-no mem)
