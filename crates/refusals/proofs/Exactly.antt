@@ -20,7 +20,7 @@ use Rattle.rules.specs.Step as steps
 use Rattle.rules.specs.Calls as rules
 use Rattle.rules.specs.declared.Machine.{Machine}
 use Rattle.rules.proofs.Tests.{yes-lt, no-lt, yes-eq, no-eq, by-bool, cases-eq, cases-lt, on-eq, on-lt, on-le}
-use Rattle.refusals.specs.Conditions.{firstOf, frame, lastTooLong, pairOutside, isHalted, asked, isIdle, isUnlisted, isMoving, isHeld, takeNotReady, giveNotReady, pointerOutside, full, givePairs, stepPairs, tickNumbers, takeNumbers, giveNumbers, eventNumbers, undoNumbers, clearNumbers, freshNumbers, stepOutside, stops, stepNumbers}
+use Rattle.refusals.specs.Conditions.{firstOf, badJournal, lastTooLong, pairOutside, isHalted, asked, isIdle, isUnlisted, isMoving, isHeld, takeNotReady, giveNotReady, pointerOutside, full, givePairs, stepPairs, tickNumbers, takeNumbers, giveNumbers, eventNumbers, undoNumbers, clearNumbers, freshNumbers, stepOutside, stops, stepNumbers}
 use Rattle.laws.proofs.Calm.{never}
 use Rattle.refusals.proofs.Own.{own-first}
 use Rattle.refusals.proofs.Stored.{no-pairs, tick-stored, take-stored, event-stored, give-pairs}
@@ -32,7 +32,7 @@ answer-of false o p = refl
 
 -- the checks before a call's own
 checked-answer : (bad : Bool) (m : Machine) (mem j : List ℕ) (o : rules.Outcome) (rest : List (ℕ × Bool)) → o .answer ≡ firstOf rest
-    → rules.checked bad m mem j o .answer ≡ firstOf ((1, rules.sizeBad mem j) ∷ (3, bad) ∷ (4, frame m j) ∷ rest)
+    → rules.checked bad m mem j o .answer ≡ firstOf ((1, rules.sizeBad mem j) ∷ (3, bad) ∷ (4, badJournal m j) ∷ rest)
 unfolding rules.checked firstOf
 checked-answer bad m mem j o rest e = simp answer-of (rw e)
 
@@ -211,7 +211,7 @@ module _ (m : Machine) (mem j : List ℕ) where
   unfolding rules.undo rules.checked rules.undoLast rules.undone ifEq ifLt firstOf
   undo-exactly =
       simp answer-of
-      (ap (λ (n : ℕ). pick (rules.sizeBad mem j) 1 n) (undo-rows (frame m j) (lastTooLong m j) (pairOutside m mem j) (m .depth)))
+      (ap (λ (n : ℕ). pick (rules.sizeBad mem j) 1 n) (undo-rows (badJournal m j) (lastTooLong m j) (pairOutside m mem j) (m .depth)))
 
   pub clear-exactly : rules.clear m mem j .answer ≡ firstOf (clearNumbers m mem j)
   unfolding rules.clear firstOf

@@ -28,7 +28,7 @@ use Rattle.laws.proofs.Lawful.{kept}
 use Rattle.laws.proofs.LawfulStep.{step-alike, FetchRefused, fetch-refused, lawful-haltOnError}
 use Rattle.laws.proofs.Calm.{never}
 use Rattle.laws.proofs.Appended.{stores-appended, touched-appended, record-appended}
-use Rattle.refusals.specs.Conditions.{firstOf, frame, isHalted, isIdle, fetches, full, stepPairs}
+use Rattle.refusals.specs.Conditions.{firstOf, badJournal, isHalted, isIdle, fetches, full, stepPairs}
 use Rattle.refusals.specs.Outside.{appended}
 use Rattle.refusals.proofs.Own.{by-choice}
 use Rattle.refusals.proofs.Exactly.{ownNumbers, step-own, step-exactly}
@@ -60,7 +60,7 @@ ten-own (e ∷ es) f h = go (e .1) (ten-own es f) h
 step-ten : (m : Machine) (mem j : List ℕ) → length (m .regs) ≡ registers → rules.step m mem j .answer ≡ outside
     → (sizeBad mem j ≡ false) × (steps.step mem (begin (m .regs)) .answer ≡ outside)
 unfolding firstOf
-step-ten m mem j h e = go (sizeBad mem j) (frame m j) refl (sym (step-exactly m mem j h) ∙ e)
+step-ten m mem j h e = go (sizeBad mem j) (badJournal m j) refl (sym (step-exactly m mem j h) ∙ e)
   where
     rest : List (ℕ × Bool)
     rest = ownNumbers (m .regs) mem ++ ((12, full (stepPairs (m .regs) mem) m j) ∷ [])
@@ -148,7 +148,7 @@ module _ (r mem : List ℕ) (h : length r ≡ registers) (o : length mem ≤ ind
       (λ e. never (sym k ∙ rw (no-eq e)))
 
 pub step-fetch-outside : (m : Machine) (mem j : List ℕ) → length (m .regs) ≡ registers
-    → sizeBad mem j ≡ false → frame m j ≡ false → isHalted (m .regs) ≡ false → isIdle (m .regs) ≡ false → fetches (m .regs) ≡ true
+    → sizeBad mem j ≡ false → badJournal m j ≡ false → isHalted (m .regs) ≡ false → isIdle (m .regs) ≡ false → fetches (m .regs) ≡ true
     → length mem ≤ index (getD (m .regs) iptrReg 0)
     → (rules.step m mem j .answer ≡ outside)
     × (steps.step mem (begin (m .regs)) .kind ≡ kindFetch)

@@ -26,7 +26,7 @@ use Rattle.laws.proofs.LawfulTimers.{lawful-nextTime}
 use Rattle.laws.proofs.Calm.{never, and-false, any-fine}
 use Rattle.laws.proofs.TimerRings.{insert-rings, delete-rings}
 use Rattle.laws.proofs.Steps.{queue-inside, started-count, off-count, off-answer}
-use Rattle.refusals.specs.Conditions.{firstOf, frame, isHalted, isIdle, isUnlisted, fetches, operates, nextCode, operationStops, stepOutside, stops, full, stepPairs}
+use Rattle.refusals.specs.Conditions.{firstOf, badJournal, isHalted, isIdle, isUnlisted, fetches, operates, nextCode, operationStops, stepOutside, stops, full, stepPairs}
 use Rattle.refusals.proofs.Own.{own-nine, own-eleven}
 use Rattle.refusals.proofs.Exactly.{step-exactly}
 
@@ -119,7 +119,7 @@ eleven false false true f e = refl
 eleven false false false true e = absurd (omega (arith, e))
 eleven false false false false e = absurd (omega (arith, e))
 
-module _ (m : Machine) (mem j : List ℕ) (h : length (m .regs) ≡ registers) (sized : rules.sizeBad mem j ≡ false) (framed : frame m j ≡ false)
+module _ (m : Machine) (mem j : List ℕ) (h : length (m .regs) ≡ registers) (sized : rules.sizeBad mem j ≡ false) (framed : badJournal m j ≡ false)
     (runs : isHalted (m .regs) ≡ false) (busy : isIdle (m .regs) ≡ false) where
   abbrev r : List ℕ
   r = m .regs
