@@ -1,5 +1,4 @@
 -- The eight calls keep the lengths of registers, memory and journal; a refused call changes nothing; clear, undo and fresh write no journal word.
---
 use mathlib.Core.Path.{_≡_, refl, _∙_}
 use mathlib.Core.Bool.{Bool, true, false, _||_}
 use mathlib.Core.List.{List, [], _∷_}

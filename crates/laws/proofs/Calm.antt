@@ -1,5 +1,5 @@
--- What keeps every property of the answer (Fine) keeps a refusal, and what asks nothing of 11 Stops nowhere. So how a test of a place tells whether
--- the work there Stops.
+-- What keeps every property of the answer (Fine) keeps a refusal, and what asks nothing of 11 Stops nowhere. So a test of a place tells
+-- whether the work there Stops.
 use mathlib.Core.Path.{_≡_, refl, sym, subst, _∙_}
 use mathlib.Core.Logic.{_↔_}
 use mathlib.Core.Bool.{Bool, true, false, _&&_, not}

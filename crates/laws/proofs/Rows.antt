@@ -1,4 +1,4 @@
--- A property of every row of a table is one of what the table has at a code.
+-- A property of every row of a table holds of the entry for a code.
 use mathlib.Core.Path.{_≡_, refl, sym, subst}
 use mathlib.Core.Bool.{Bool, true, false}
 use mathlib.Core.List.{List, [], _∷_, _++_}

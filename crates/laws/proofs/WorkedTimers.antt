@@ -1,5 +1,4 @@
 -- Insertions of a high process whose workspace lies over the word of its queue, by computation: the walk reads what the same call has stored.
---
 use mathlib.Core.Path.{_≡_, refl}
 use mathlib.Core.List.{List, [], _∷_}
 use Prim.Native.Nat.{ℕ}
