@@ -4,7 +4,7 @@ use Prim.Native.Nat.{_-_}
 use mathlib.Core.Bool.{false}
 use Rattle.rules.specs.Calls.{undo}
 use Rattle.journal.proofs.Refusing.{number-known, stopped, bounds-good}
-use Rattle.journal.proofs.Settled.{undo-none, undo-some}
+use Rattle.journal.proofs.CommitOrRefuse.{undo-none, undo-some}
 use borrow.Author.Needs.{needs}
 use Rattle.t414.proofs.undo.Statement.{statement}
 use Rattle.t414.proofs.undo.Tie as tie

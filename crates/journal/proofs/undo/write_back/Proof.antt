@@ -7,8 +7,8 @@ use lib.ListN.{length, getD, length-set}
 use mathlib.Core.Bool.{false}
 use Rattle.rules.specs.Journal.{pairsAt, writeBack, strays}
 use Rattle.journal.proofs.Pairs.{pair-below, pairs-below, back-none, back-turn}
-use Rattle.journal.proofs.undo_parts.write_back.Statement.{statement}
-use Rattle.journal.proofs.undo_parts.write_back.Tie as tie
+use Rattle.journal.proofs.undo.write_back.Statement.{statement}
+use Rattle.journal.proofs.undo.write_back.Tie as tie
 
 record Turn (mem₀ j : List ℕ) (at n : ℕ) (mem : List ℕ) (w left : ℕ) : Type 0 where
   room : w + 2 * left ≤ length j

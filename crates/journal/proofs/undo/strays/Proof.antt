@@ -7,8 +7,8 @@ use lib.ListN.{length}
 use Rattle.rules.specs.Journal.{pairsAt}
 use Rattle.rules.specs.Journal as rules
 use Rattle.journal.proofs.Pairs.{strays-none, strays-here, strays-on}
-use Rattle.journal.proofs.undo_parts.strays.Statement.{statement}
-use Rattle.journal.proofs.undo_parts.strays.Tie as tie
+use Rattle.journal.proofs.undo.strays.Statement.{statement}
+use Rattle.journal.proofs.undo.strays.Tie as tie
 
 record Turn (j : List ℕ) (at n size w left : ℕ) : Type 0 where
   room : w + 2 * left ≤ length j

@@ -7,8 +7,8 @@ use Rattle.rules.specs.declared.Answer.the-variants.{JournalBad}
 use Rattle.journal_record.proofs.JournalBounds.{bounds-good}
 use Rattle.journal_record.proofs.Outcomes.{refusal-is, number-bad, undo-short, undo-stray, undo-done}
 use borrow.Author.Needs.{needs}
-use Rattle.journal.proofs.commit.undo_last.Statement.{statement}
-use Rattle.journal.proofs.commit.undo_last.Tie as tie
+use Rattle.journal.proofs.undo.undo_last.Statement.{statement}
+use Rattle.journal.proofs.undo.undo_last.Tie as tie
 
 -- the bounds of the journal, and a depth above 0
 good : (c : tie.Start) → (c .args .m .used ≤ length (c .args .journal .now)) × (recordLength 0 * c .args .m .depth ≤ c .args .m .used) × (0 < c .args .m .depth)

@@ -9,8 +9,8 @@ use lib.Seq.{sets}
 use lib.ListN.{drop-of-length-le}
 use Rattle.rules.specs.Registers.{registers}
 use Rattle.journal.proofs.Pairs.{sets-all, part-cut, part-length}
-use Rattle.journal.proofs.undo_parts.get_regs.Statement.{statement}
-use Rattle.journal.proofs.undo_parts.get_regs.Tie as tie
+use Rattle.journal.proofs.undo.get_regs.Statement.{statement}
+use Rattle.journal.proofs.undo.get_regs.Tie as tie
 
 record Turn (j : List ℕ) (at : ℕ) (regs : List ℕ) (w k : ℕ) : Type 0 where
   kn : k ≤ registers

@@ -2,10 +2,10 @@ use native.Mathlib.Omega.{arith}
 use mathlib.Core.Path.{_≡_}
 use lib.ListN.{length}
 use Rattle.rules.specs.Registers.{registers}
-use Rattle.journal.proofs.Settled.{step-known}
+use Rattle.journal.proofs.CommitOrRefuse.{step-known}
 use borrow.Author.Needs.{needs}
-use Rattle.step_engine.proofs.planned.Statement.{statement}
-use Rattle.step_engine.proofs.planned.Tie as tie
+use Rattle.step_engine.proofs.plan_and_commit.Statement.{statement}
+use Rattle.step_engine.proofs.plan_and_commit.Tie as tie
 
 long : (c : tie.Start) → length (c .args .m .regs) ≡ registers
 long c = search needs
@@ -22,5 +22,5 @@ returns c =
     let g = c .before .before .before .before in
     rw (g .before .before .before .step .ensures .0) at (g .commit-or-refuse .ensures)
 
-pub planned-spec : {M : Type 1} → statement M
-planned-spec = tie.close (tie.spec (λ c κs. search needs) commit-or-refuse-requires (λ c. search needs) (λ c. search needs) returns)
+pub plan-and-commit-spec : {M : Type 1} → statement M
+plan-and-commit-spec = tie.close (tie.spec (λ c κs. search needs) commit-or-refuse-requires (λ c. search needs) (λ c. search needs) returns)
