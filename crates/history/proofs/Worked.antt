@@ -1,8 +1,8 @@
--- Worked runs by computation, from fresh with code 41 81 (01, Numbers at the edges), on a memory of 64 words and a journal of 92: refused calls, a
--- refused undo and a full journal among them.
+-- Worked runs by computation, from fresh with code 41 81 (01, Numbers at the edges), on a memory of 64 words and a journal with room
+-- for two records without pairs: refused calls, a refused undo and a full journal among them.
 use mathlib.Core.Path.{_≡_, refl}
 use mathlib.Core.List.{List, [], _∷_}
-use Prim.Native.Nat.{ℕ}
+use Prim.Native.Nat.{ℕ, _*_}
 use lib.ListN.{getD, replicate}
 use Rattle.rules.specs.Tests.{ifLt, ifLe, ifEq}
 use Rattle.rules.specs.Words.{sign, restoreToRange, overflows}
@@ -16,14 +16,14 @@ use Rattle.rules.specs.Channels.{requestFrom, requested}
 use Rattle.rules.specs.Links as links
 use Rattle.rules.specs.Operations.{functions, function}
 use Rattle.rules.specs.Step as steps
-use Rattle.rules.specs.Journal.{olds, recordOf, boundsBad, lastPairs, lastStart, lastRegs, pairsAt, writeBack, strays}
+use Rattle.rules.specs.Journal.{recordLength, olds, recordOf, boundsBad, lastPairs, lastStart, lastRegs, pairsAt, writeBack, strays}
 use Rattle.rules.specs.Calls.{memorySizeBad, journalSizeBad, sizeBad, codeBad, notOutput, notInput, recorded, commitOrRefuse, checked, undone, undoLast, codeWord, freshWord, freshMemory, freshRegs, fresh}
 use Rattle.rules.specs.Calls as rules
 use Rattle.history.specs.Machine.{Act, call, undo}
 use Rattle.history.specs.T414.{Call, step, tick, take, give, Whole, perform, after, run, standing}
 
 abbrev pub begun : Whole
-begun = after (fresh (0x41 ∷ 0x81 ∷ []) (replicate 64 0) (replicate 92 0))
+begun = after (fresh (0x41 ∷ 0x81 ∷ []) (replicate 64 0) (replicate (2 * recordLength 0) 0))
 
 -- the answers of calls made one after the other
 unfoldable pub answers : List (Act Call) → Whole → List ℕ
@@ -59,6 +59,6 @@ pub answered : answers acts begun ≡ 5 ∷ 8 ∷ 3 ∷ 0 ∷ 0 ∷ 0 ∷ 8 ∷ 
 unfolding answers run standing fresh freshRegs freshMemory freshWord codeWord codeBad memorySizeBad journalSizeBad sizeBad notOutput notInput ifLt ifLe ifEq rules.step rules.tick rules.take rules.give rules.undo checked commitOrRefuse recorded undone undoLast boundsBad lastPairs lastStart lastRegs pairsAt writeBack strays olds recordOf touched touchedFrom hit stores storing steps.step steps.choose steps.channelsFirst steps.timersFirst steps.instructionUnlessIdle steps.instruction steps.decode steps.execute steps.fetched steps.haltOnError steps.haltIfAsked links.tick links.take links.taken links.takeByte links.give links.hold links.noticeHeld links.receive function functions requested requestFrom timerReady timerDue put raise lower putCore coreOf withCore wordAt byteAt access refuseAt actOnSNP j timeSlice sliceIfRunning overflowCheck overflows sign restoreToRange
 answered = refl
 
-pub ends : (facts (run acts begun) ≡ 2 ∷ 2 ∷ 92 ∷ []) × (standing acts begun [] ≡ step ∷ step ∷ [])
+pub ends : (facts (run acts begun) ≡ 2 ∷ 2 ∷ 2 * recordLength 0 ∷ []) × (standing acts begun [] ≡ step ∷ step ∷ [])
 unfolding answers run standing fresh freshRegs freshMemory freshWord codeWord codeBad memorySizeBad journalSizeBad sizeBad notOutput notInput ifLt ifLe ifEq rules.step rules.tick rules.take rules.give rules.undo checked commitOrRefuse recorded undone undoLast boundsBad lastPairs lastStart lastRegs pairsAt writeBack strays olds recordOf touched touchedFrom hit stores storing steps.step steps.choose steps.channelsFirst steps.timersFirst steps.instructionUnlessIdle steps.instruction steps.decode steps.execute steps.fetched steps.haltOnError steps.haltIfAsked links.tick links.take links.taken links.takeByte links.give links.hold links.noticeHeld links.receive function functions requested requestFrom timerReady timerDue put raise lower putCore coreOf withCore wordAt byteAt access refuseAt actOnSNP j timeSlice sliceIfRunning overflowCheck overflows sign restoreToRange
 ends = (refl, refl)

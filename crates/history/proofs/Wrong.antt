@@ -3,7 +3,7 @@
 -- nothing, a step that then only moves Iptr, or a step that invents depth or used. Each is shown on states for which the rules are computed.
 use mathlib.Core.Path.{_≡_, refl, sym, ap, _∙_}
 use mathlib.Core.List.{List, [], _∷_}
-use Prim.Native.Nat.{ℕ, _+_}
+use Prim.Native.Nat.{ℕ, _+_, _*_}
 use native.Mathlib.Omega.{arith}
 use borrow.Author.Tests.{ne-eqb}
 use lib.ListN.{length, getD, set, replicate}
@@ -21,7 +21,7 @@ use Rattle.rules.specs.Channels.{requestFrom, requested}
 use Rattle.rules.specs.Links as links
 use Rattle.rules.specs.Operations.{functions, function}
 use Rattle.rules.specs.Step as steps
-use Rattle.rules.specs.Journal.{olds, recordOf, boundsBad, lastPairs, lastStart, lastRegs, pairsAt, writeBack, strays}
+use Rattle.rules.specs.Journal.{recordLength, olds, recordOf, boundsBad, lastPairs, lastStart, lastRegs, pairsAt, writeBack, strays}
 use Rattle.rules.specs.Calls.{numberOf, Outcome, outcomeOf, memorySizeBad, journalSizeBad, sizeBad, codeBad, notOutput, notInput, recorded, commitOrRefuse, checked, undone, undoLast, codeWord, freshWord, freshMemory, freshRegs, machineOf, fresh}
 use Rattle.rules.specs.Calls as rules
 use Rattle.rules.specs.declared.Machine.{Machine}
@@ -48,7 +48,7 @@ abbrev pub lent : List ℕ
 lent = replicate 64 0
 
 abbrev pub paper : List ℕ
-paper = replicate 138 0
+paper = replicate (3 * recordLength 0) 0
 
 abbrev pub begun : Whole
 begun =

@@ -13,7 +13,7 @@ ghost use Rattle.journal_record.specs.Indices.{range};
 ghost use Rattle.journal_record.specs.Outline.{Outlined, listed};
 
 // The number of registers in the first of two copies.
-const HALF: usize = 23;
+const HALF: usize = (REGISTERS + 1) / 2;
 
 // Writes the pairs of the words ix[f..t].
 fn put_single_pairs(journal: &mut [u32], mem: &[u32], ix: [u32; 16], f: usize, t: usize, at: usize)

@@ -2,7 +2,7 @@
 use mathlib.Core.Path.{_≡_, refl, sym, _∙_}
 use mathlib.Core.Bool.{Bool, true, false, _&&_, _||_}
 use mathlib.Core.List.{List, [], _∷_}
-use Prim.Native.Nat.{ℕ, _≤_, _<_}
+use Prim.Native.Nat.{ℕ, suc, _+_, _≤_, _<_}
 use native.Mathlib.Omega.{arith}
 use borrow.Author.Tests.{lt-leb, ne-eqb, ltb-true}
 use lib.Dec.{ltb, leb, eqb}
@@ -12,9 +12,14 @@ use Rattle.rules.proofs.Tests.{cases-lt}
 use Rattle.laws.specs.Lists.{listed}
 use Rattle.laws.proofs.Calm.{never, and-false}
 use Rattle.laws.proofs.LawfulOperations.{allBelow, all-below}
-use Rattle.refusals.specs.Conditions.{isBuilt}
+use Rattle.refusals.specs.Conditions.{builtRanges, inRanges, isBuilt}
 
--- ---- below #5A: by computation
+-- ---- below a bound: by computation
+
+-- a code above every range
+bound : List (ℕ × ℕ) → ℕ
+bound [] = 0
+bound (r ∷ rs) = suc (r .1) + bound rs
 
 same : Bool → Bool → Bool
 same true b = b
@@ -28,38 +33,42 @@ is-same true false h = never h
 is-same false true h = never h
 is-same false false h = refl
 
-built-below : (k : ℕ) → k < 0x5A → isBuilt k ≡ listed k operations
-unfolding allBelow registerOperations otherOperations operations isBuilt same
-built-below k h = is-same _ _ (all-below 0x5A (λ k. same (isBuilt k) (listed k operations)) refl k h)
+built-below : (k : ℕ) → k < bound builtRanges → isBuilt k ≡ listed k operations
+unfolding allBelow bound builtRanges registerOperations otherOperations operations isBuilt inRanges same
+built-below k h = is-same _ _ (all-below (bound builtRanges) (λ k. same (isBuilt k) (listed k operations)) refl k h)
 
--- ---- from #5A on: neither
+-- ---- from the bound on: neither
 
-bounded : List (ℕ × Action) → Bool
-bounded [] = true
-bounded (e ∷ t) = pick (ltb (e .0) 0x5A) (bounded t) false
+bounded : ℕ → List (ℕ × Action) → Bool
+bounded n [] = true
+bounded n (e ∷ t) = pick (ltb (e .0) n) (bounded n t) false
 
-unlisted-above : (t : List (ℕ × Action)) → bounded t ≡ true → (k : ℕ) → 0x5A ≤ k → listed k t ≡ false
+unlisted-above : (n : ℕ) (t : List (ℕ × Action)) → bounded n t ≡ true → (k : ℕ) → n ≤ k → listed k t ≡ false
 unfolding bounded
-unlisted-above [] h k l = refl
-unlisted-above (e ∷ t) h k l = go (ltb (e .0) 0x5A) refl h (unlisted-above t)
+unlisted-above n [] h k l = refl
+unlisted-above n (e ∷ t) h k l = go (ltb (e .0) n) refl h (unlisted-above n t)
   where
-    go : (b : Bool) → ltb (e .0) 0x5A ≡ b → pick b (bounded t) false ≡ true → (bounded t ≡ true → (k : ℕ) → 0x5A ≤ k → listed k t ≡ false)
+    go : (b : Bool) → ltb (e .0) n ≡ b → pick b (bounded n t) false ≡ true → (bounded n t ≡ true → (k : ℕ) → n ≤ k → listed k t ≡ false)
         → pick (eqb k (e .0)) true (listed k t) ≡ false
-    go true q z f = rw (ne-eqb k (e .0) (λ s. omega (arith, s, ltb-true (e .0) 0x5A q))) (f z k l)
+    go true q z f = rw (ne-eqb k (e .0) (λ s. omega (arith, s, ltb-true (e .0) n q))) (f z k l)
     go false q z f = never z
 
--- past a range, and past all five of them
 past : (a b k : ℕ) → b < k → (leb a k && leb k b) ≡ false
 past a b k h = rw (lt-leb k b h) (and-false (leb a k))
 
-none-of : (a b c d e : Bool) → a ≡ false → b ≡ false → c ≡ false → d ≡ false → e ≡ false → (a || b || c || d || e) ≡ false
-none-of a b c d e p q r s t = rw (p, q, r, s, t)
+neither : (a b : Bool) → a ≡ false → b ≡ false → (a || b) ≡ false
+neither a b p q = rw (p, q)
 
-built-above : (k : ℕ) → 0x5A ≤ k → isBuilt k ≡ false
+ranges-above : (rs : List (ℕ × ℕ)) (k : ℕ) → bound rs ≤ k → inRanges rs k ≡ false
+unfolding bound inRanges
+ranges-above [] k l = refl
+ranges-above (r ∷ rs) k l = neither _ _ (past _ _ k (omega arith)) (ranges-above rs k (omega arith))
+
+built-above : (k : ℕ) → bound builtRanges ≤ k → isBuilt k ≡ false
 unfolding isBuilt
-built-above k l =
-    none-of _ _ _ _ _ (lt-leb k _ (omega arith)) (past _ _ k (omega arith)) (past _ _ k (omega arith)) (past _ _ k (omega arith)) (past _ _ k (omega arith))
+built-above k l = ranges-above builtRanges k l
 
 pub built-listed : (k : ℕ) → isBuilt k ≡ listed k operations
-unfolding bounded registerOperations otherOperations operations
-built-listed k = cases-lt k 0x5A (λ h. built-below k h) (λ h. built-above k h ∙ sym (unlisted-above operations refl k h))
+unfolding bound bounded registerOperations otherOperations operations builtRanges
+built-listed k =
+    cases-lt k (bound builtRanges) (λ h. built-below k h) (λ h. built-above k h ∙ sym (unlisted-above (bound builtRanges) operations refl k h))

@@ -76,14 +76,18 @@ takeNotReady c r = not (isMoving c r)
 abbrev pub giveNotReady : ℕ → List ℕ → Bool
 giveNotReady c r = not (isMoving c r) && isHeld c r
 
--- the built list: #00 to #0F, #10, #12, #13, #15 to #22, #29 to #2C, #2E to #59 (01, The part of the T414 that we build)
+-- the built list: #00 to #0F, #10, #12, #13, #15 to #22, #29 to #2C, #2E to #59, as first and last codes (01, The part of the T414 that we build)
+unfoldable pub builtRanges : List (ℕ × ℕ)
+builtRanges = (0x00, 0x10) ∷ (0x12, 0x13) ∷ (0x15, 0x22) ∷ (0x29, 0x2C) ∷ (0x2E, 0x59) ∷ []
+
+-- a code is in one of these ranges (01, The part of the T414 that we build)
+unfoldable pub inRanges : List (ℕ × ℕ) → ℕ → Bool
+inRanges [] k = false
+inRanges (r ∷ rs) k = (leb (r .0) k && leb k (r .1)) || inRanges rs k
+
+-- a code is built (01, The part of the T414 that we build)
 unfoldable pub isBuilt : ℕ → Bool
-isBuilt k =
-    leb k 0x10
-    || (leb 0x12 k && leb k 0x13)
-    || (leb 0x15 k && leb k 0x22)
-    || (leb 0x29 k && leb k 0x2C)
-    || (leb 0x2E k && leb k 0x59)
+isBuilt k = inRanges builtRanges k
 
 -- the instruction byte, at Iptr (01, One step (c))
 abbrev pub nextByte : List ℕ → List ℕ → ℕ

@@ -47,17 +47,15 @@ const FIRST: [&str; 18] = [
 ];
 
 pub fn register(number: usize) -> String {
-    match FIRST.get(number) {
-        Some(name) => (*name).into(),
-        None => {
-            let part = ["pointer", "count", "flags"];
-            let channel = (number - FIRST.len()) / 3;
-            format!(
-                "channel {channel} {}",
-                part[(number - pointer_of(channel)) % 3]
-            )
-        }
+    const PART: [&str; 3] = ["pointer", "count", "flags"];
+    if let Some(name) = FIRST.get(number) {
+        return (*name).into();
     }
+    let channel = (number - FIRST.len()) / 3;
+    if channel >= LINK_CHANS {
+        return format!("register {number}");
+    }
+    format!("channel {channel} {}", PART[number - pointer_of(channel)])
 }
 
 pub fn memory_word(index: usize) -> String {

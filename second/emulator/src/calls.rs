@@ -199,7 +199,7 @@ impl<K: Care> Emulator<K> {
             machine.depth += 1;
         }
         if self.care.wrong(Mistake::UsedGrowsOnRefusal) {
-            machine.used += 46;
+            machine.used += journal::RECORD as u64;
         }
         if self.care.wrong(Mistake::RefusalKeepsIptr) {
             machine.regs[IPTR] = fetched;

@@ -5,7 +5,7 @@ use emulator::{MAX_JOURNAL, RECORD, REGISTERS};
 use crate::case::{Call, Case};
 use crate::random::Random;
 
-/// Longest record that a case of ordinary size asks for, roughly: 46 words and a dozen pairs.
+/// Longest record that a case of ordinary size asks for, roughly: the registers and a dozen pairs.
 const ROOMY: u32 = RECORD as u32 + 60;
 
 pub fn prepare(random: &mut Random, case: &mut Case) {
@@ -110,18 +110,19 @@ fn word(random: &mut Random, words: usize) -> u32 {
 fn damage(random: &mut Random, case: &mut Case) {
     let length = case.journal.len() as u64;
     let any = random.long();
-    // 46 times these is 2^64 + 40 and 2^65 + 34: small numbers if the product wraps.
-    let wraps = [401_016_175_515_425_036, 802_032_351_030_850_071];
+    // RECORD times these is a little above 2^64 and 2^65: a small number if the product wraps.
+    let wraps = [64, 65].map(|bits| ((1u128 << bits) / RECORD as u128 + 1) as u64);
     match random.below(5) {
         0 => {
-            case.machine.used = random.pick(&[length + 1, length + 46, any, u64::MAX, 1 << 32]);
+            case.machine.used =
+                random.pick(&[length + 1, length + RECORD as u64, any, u64::MAX, 1 << 32]);
             case.machine.depth = random.pick(&[case.machine.depth, 0]);
         }
         1 => case.machine.depth = random.pick(&[any, u64::MAX, 1 << 63, wraps[0], wraps[1]]),
         2 => case.machine.depth = case.machine.used / RECORD as u64 + 1,
         3 => case.machine.depth = random.pick(&wraps),
         _ => {
-            case.machine.used = random.pick(&[0, 45, 46, length]);
+            case.machine.used = random.pick(&[0, RECORD as u64 - 1, RECORD as u64, length]);
             case.machine.depth = u64::from(random.below(3));
         }
     }

@@ -7,8 +7,9 @@ use emulator::{number, Emulator, Machine};
 #[test]
 fn decision_35_the_journal_is_checked_exactly() {
     let mut rig = Rig::quiet();
-    rig.m.depth = 401_016_175_515_425_036;
-    rig.m.used = 46;
+    // RECORD times this is a little above 2^64: a small number if the product wraps
+    rig.m.depth = u64::MAX / RECORD + 1;
+    rig.m.used = RECORD;
     assert_eq!(
         (rig.step(), rig.tick(), rig.event(), rig.undo()),
         (4, 4, 4, 4)
@@ -43,7 +44,7 @@ fn decision_35_a_refused_fresh_answers_zeros() {
 fn foreign(pairs: &[[u32; 2]]) -> Rig {
     let mut rig = Rig::quiet();
     let mut record: Vec<u32> = pairs.concat();
-    record.extend(1000..1045);
+    record.extend((1000..).take(REGISTERS));
     record.push(pairs.len() as u32);
     rig.m.used = record.len() as u64;
     rig.m.depth = 1;
@@ -68,11 +69,13 @@ fn decision_36_undo_of_foreign_records() {
         assert_eq!(rig.undo(), 4);
     }
     let mut rig = foreign(&[[70, 1], [71, 2], [72, 2], [73, 1], [74, 1]]);
-    rig.jou.splice(0..0, [9; 46]);
-    rig.m.used += 46;
+    rig.jou.splice(0..0, [9; RECORD as usize]);
+    rig.m.used += RECORD;
     rig.m.depth = 2;
-    *rig.jou.last_mut().unwrap() = 28;
-    assert_eq!((rig.undo(), rig.m.depth, rig.m.used), (0, 1, 0));
+    // the words before it taken for pairs
+    *rig.jou.last_mut().unwrap() = 5 + RECORD as u32 / 2;
+    assert_eq!((rig.undo(), rig.m.depth), (0, 1));
+    assert_eq!(rig.m.used, RECORD % 2);
     assert_eq!(rig.undo(), 4);
 }
 
@@ -81,7 +84,7 @@ fn decision_37_calls_that_ask_for_nothing() {
     let mut rig = Rig::quiet();
     rig.set(FLAGS, HALTED | IDLE);
     assert_eq!((rig.tick(), rig.give(7, 9), rig.event()), (0, 0, 0));
-    assert_eq!(rig.m.used, 3 * 46);
+    assert_eq!(rig.m.used, 3 * RECORD);
 }
 
 #[test]
@@ -93,13 +96,13 @@ fn decision_38_the_record() {
     let before = rig.m.regs;
     rig.run(&[0x90]);
     assert_eq!(rig.jou[..8], [56, 0, 57, 0, 58, 0x77, 59, 3]);
-    assert_eq!((rig.jou[8..53] == before, rig.jou[53]), (true, 4));
-    assert_eq!((rig.m.used, rig.m.depth), (54, 1));
+    assert_eq!(rig.jou[8..][..before.len()], before);
+    let end = 8 + before.len() + 1;
+    assert_eq!(rig.jou[end - 1], 4);
+    assert_eq!((rig.m.used, rig.m.depth), (end as u64, 1));
     rig.set(IPTR, CODE).stack(word(70) + 1, 0xAB, 0).op(0x3B);
-    assert_eq!(
-        (rig.jou[54..56].to_vec(), rig.m.used),
-        (vec![70, 0], 54 + 48)
-    );
+    assert_eq!(rig.jou[end..][..2], [70, 0]);
+    assert_eq!(rig.m.used, end as u64 + RECORD + 2);
 }
 
 #[test]
@@ -107,7 +110,7 @@ fn decision_38_a_word_stored_twice_is_saved_once() {
     // outword stores local 0, then the channel word, Iptr.s and Pointer.s: let local 0 be the channel
     let mut rig = Rig::quiet();
     rig.put(W, 0, 5).stack(NOT_PROCESS, W, 0).op(0x0F);
-    assert_eq!(rig.m.used, 46 + 2 * 3);
+    assert_eq!(rig.m.used, RECORD + 2 * 3);
     assert_eq!(rig.jou[..6], [57, 0, 59, 0, 60, 5]);
     assert_eq!((rig.at(W, 0), rig.undo(), rig.at(W, 0)), (W | 1, 0, 5));
 }
@@ -123,13 +126,15 @@ fn a_refusal_leaves_everything() {
     assert_eq!(rig.step(), 10);
     assert_eq!((&rig.m, &rig.mem), (&machine, &memory));
     rig.put(word(80), POINTER_S, word(70));
-    rig.jou = vec![5; 46 + 2 * 4 - 1];
+    let too_short = RECORD as usize + 2 * 4 - 1;
+    rig.jou = vec![5; too_short];
     let memory = rig.mem.clone();
     assert_eq!(rig.step(), 12);
-    assert_eq!((&rig.m, &rig.mem, rig.jou.len()), (&machine, &memory, 53));
+    assert_eq!((&rig.m, &rig.mem), (&machine, &memory));
+    assert_eq!(rig.jou.len(), too_short);
     assert!(rig.jou.iter().all(|&word| word == 5));
     rig.jou.push(5);
-    assert_eq!((rig.step(), rig.m.used), (0, 54));
+    assert_eq!((rig.step(), rig.m.used), (0, RECORD + 2 * 4));
 }
 
 #[test]

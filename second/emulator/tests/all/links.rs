@@ -60,7 +60,7 @@ fn decision_28_a_count_of_0_touches_nothing() {
         rig.set(WDESC, NO_LOW_PROCESS)
             .set(flags_of(channel as usize), HELD);
         rig.stack(0, word(channel) + 2, 6).op(IN);
-        assert_eq!((rig.m.used, rig.abc()), (46, [0, word(channel) + 2, 6]));
+        assert_eq!((rig.m.used, rig.abc()), (RECORD, [0, word(channel) + 2, 6]));
         assert_eq!(
             (rig.get(flags_of(channel as usize)), rig.get(IPTR)),
             (HELD, CODE + 1)
@@ -90,7 +90,7 @@ fn decision_29_in_with_a_byte_held() {
         rig.m.regs[pointer_of(6)..][..3],
         [BUFFER + 1, 0, RUN_REQUEST | 0x5A00]
     );
-    assert_eq!(rig.m.used, 46 + 6);
+    assert_eq!(rig.m.used, RECORD + 6);
     let mut rig = Rig::quiet();
     rig.set(flags_of(6), HELD).stack(1, word(6), word(128));
     assert_eq!(rig.operate(IN), 10);
@@ -122,7 +122,7 @@ fn decision_30_enabling_a_hard_channel() {
         let mut rig = Rig::quiet();
         rig.set(flags, HELD).stack(1, word(channel), 6).op(0x48);
         assert_eq!((rig.get(flags), rig.at(W, STATE_S)), (HELD, READY));
-        assert_eq!((rig.abc(), rig.m.used), ([1, 6, 6], 48));
+        assert_eq!((rig.abc(), rig.m.used), ([1, 6, 6], RECORD + 2));
         let mut rig = Rig::quiet();
         rig.set(flags, READY_REQUEST)
             .stack(1, word(channel), 6)
@@ -205,7 +205,7 @@ fn decision_33_which_addresses_are_hard() {
 fn decision_34_a_run_request_after_a_reset() {
     let mut rig = Rig::quiet();
     rig.set(flags_of(7), RUN_REQUEST | ENABLED).steps(1);
-    assert_eq!((rig.get(flags_of(7)), rig.m.used), (ENABLED, 46));
+    assert_eq!((rig.get(flags_of(7)), rig.m.used), (ENABLED, RECORD));
 }
 
 #[test]
@@ -267,7 +267,7 @@ fn decision_43_the_channel_number_decides_the_way() {
 #[test]
 fn ticks() {
     let mut rig = Rig::quiet();
-    assert_eq!((rig.tick(), rig.m.used, rig.get(CLOCK[0])), (0, 46, 0));
+    assert_eq!((rig.tick(), rig.m.used, rig.get(CLOCK[0])), (0, RECORD, 0));
     rig.set(FLAGS, CLOCKS_RUN)
         .set(CLOCK[0], u32::MAX)
         .set(CLOCK[1], u32::MAX);

@@ -388,7 +388,7 @@ fn decision_24_only_the_low_queue_zeroes_the_slice() {
 #[test]
 fn decision_25_the_order_of_refusals() {
     let mut rig = Rig::quiet();
-    rig.jou.truncate(45);
+    rig.jou.truncate(RECORD as usize - 1);
     assert_eq!(rig.operate(0x11), 9);
     assert_eq!(rig.stack(33, 0, 0).operate(0x41), 11);
     assert_eq!(rig.stack(0, 0, 0).operate(0x01), 10);
@@ -399,7 +399,7 @@ fn decision_25_the_order_of_refusals() {
     assert_eq!(rig.step(), 7);
     rig.set(FLAGS, IDLE | HALTED);
     assert_eq!(rig.step(), 6);
-    rig.m.used = 46;
+    rig.m.used = RECORD;
     assert_eq!(rig.step(), 4);
     rig.size(63);
     assert_eq!(rig.step(), 1);

@@ -239,7 +239,7 @@ fn decision_13_enbc_without_a_guard() {
     let mut rig = Rig::quiet();
     rig.stack(0, MAX, 6).op(0x48);
     assert_eq!(rig.abc(), [0, 6, 6]);
-    assert_eq!(rig.m.used, 46);
+    assert_eq!(rig.m.used, RECORD);
 }
 
 #[test]
@@ -249,10 +249,10 @@ fn decision_14_a_move_moves_its_registers() {
     rig.stack(6, word(90) + 3, word(80) + 1).op(0x4A);
     assert_eq!(rig.abc(), [0, word(90) + 9, word(80) + 7]);
     assert_eq!(rig.bytes(word(90) + 3, 6), [1, 2, 3, 4, 5, 6]);
-    assert_eq!(rig.m.used, 46 + 2 * 3);
+    assert_eq!(rig.m.used, RECORD + 2 * 3);
     let mut rig = Rig::quiet();
     rig.stack(0, 5, 6).op(0x4A);
-    assert_eq!((rig.abc(), rig.m.used), ([0, 5, 6], 46));
+    assert_eq!((rig.abc(), rig.m.used), ([0, 5, 6], RECORD));
     for count in [4 * 128 + 1, M1, MIN] {
         assert_eq!(
             Rig::quiet().stack(count, word(0), word(0)).operate(0x4A),
@@ -268,7 +268,7 @@ fn decision_14_a_count_of_all_memory() {
     rig.stack(4 * 128, word(0), word(0));
     assert_eq!(rig.operate(0x4A), 0);
     assert_eq!(rig.mem[21..], before[21..]);
-    assert_eq!(rig.m.used, 46 + 2 * 128);
+    assert_eq!(rig.m.used, RECORD + 2 * 128);
 }
 
 #[test]

@@ -10,6 +10,9 @@ pub struct Rig {
     emulator: Emulator,
 }
 
+/// Words of a record without pairs.
+pub const RECORD: u64 = emulator::RECORD as u64;
+
 /// The low process of `Rig::quiet`: its workspace pointer and where its code stands.
 pub const W: u32 = word(60);
 pub const CODE: u32 = word(20);

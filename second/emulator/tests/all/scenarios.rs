@@ -200,7 +200,7 @@ fn overlapping_moves() {
         }
         assert_eq!(rig.bytes(HERE, 40), expected, "from {from} to {to}");
         let words = (to + count - 1) / 4 - to / 4 + 1;
-        assert_eq!(rig.m.used, u64::from(46 + 2 * words));
+        assert_eq!(rig.m.used, RECORD + 2 * u64::from(words));
         assert_eq!(rig.undo(), 0);
         assert_eq!(rig.bytes(HERE, 40), bytes);
     }

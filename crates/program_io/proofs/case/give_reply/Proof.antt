@@ -2,12 +2,13 @@ use mathlib.Core.Path.{_≡_}
 use lib.ListN.{length}
 use native.Mathlib.Omega.{arith}
 use borrow.Author.Needs.{needs}
+use Rattle.rules.specs.Registers.{registers}
 use Rattle.program_io.proofs.case.give_reply.Statement.{statement}
 use Rattle.program_io.proofs.case.give_reply.Tie as tie
 
 give-words-requires-2 : tie.Need-give-words-requires-2
 give-words-requires-2 c κs =
-    let h : length (c .before .before .before .before .before .before .before .before .before .before .before .before .before .before .before .before .args .r .machine .regs) ≡ 45 = search needs in
+    let h : length (c .before .before .before .before .before .before .before .before .before .before .before .before .before .before .before .before .args .r .machine .regs) ≡ registers = search needs in
     omega arith
 
 pub give-reply-spec : {M : Type 1} → statement M
