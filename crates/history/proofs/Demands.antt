@@ -20,7 +20,7 @@ use Rattle.rules.specs.Calls.{noMachine, sizeBad}
 use Rattle.rules.specs.declared.Machine.{Machine}
 use Rattle.rules.specs.declared.Reply.{Reply}
 use Rattle.laws.specs.Alike.{Witness}
-use Rattle.refusals.specs.Conditions.{frame, isHalted, isIdle, fetches, stops, freshNumbers, stepNumbers, tickNumbers, takeNumbers, giveNumbers, eventNumbers, undoNumbers, clearNumbers}
+use Rattle.refusals.specs.Conditions.{badJournal, isHalted, isIdle, fetches, stops, freshNumbers, stepNumbers, tickNumbers, takeNumbers, giveNumbers, eventNumbers, undoNumbers, clearNumbers}
 use Rattle.history.specs.Machine.{Act, undo, inOrder}
 use Rattle.history.specs.T414.{Call, step, tick, take, give, event, Whole, run, shown}
 use Rattle.history.specs.T414 as calls
@@ -63,7 +63,7 @@ module _ (m : Machine) (h : length (m .regs) ≡ registers) where
   pub take-demands : (channel : ℕ) → TotalAndExact (TakeContract channel m) (takeNumbers channel m) (oneMore (take channel) m) m
   take-demands channel = record { total = take-total m h channel; refuses-cleanly = take-refused m channel; one-answer = take-unique m channel; answers-exactly = take-exactly m channel; counted = take-counted m channel }
 
-  pub give-demands : (channel byte : ℕ) → TotalAndExact (GiveContract channel byte m) (giveNumbers channel byte m) (oneMore (give channel byte) m) m
+  pub give-demands : (channel byte : ℕ) → TotalAndExact (GiveContract channel byte m) (giveNumbers channel m) (oneMore (give channel byte) m) m
   give-demands channel byte = record { total = give-total m h channel byte; refuses-cleanly = give-refused m channel byte; one-answer = give-unique m channel byte; answers-exactly = give-exactly m channel byte; counted = give-counted m channel byte }
 
   pub event-demands : TotalAndExact (EventContract m) (eventNumbers m) (oneMore event m) m
@@ -83,7 +83,7 @@ module _ (m : Machine) (h : length (m .regs) ≡ registers) (mem j : List ℕ) (
   outside-demand = step-witness m h mem j r mem′ j′ step
 
   -- the answer is 10 where (c) applies and Iptr is outside memory
-  pub fetch-demand : sizeBad mem j ≡ false → frame m j ≡ false → isHalted (m .regs) ≡ false → isIdle (m .regs) ≡ false → fetches (m .regs) ≡ true
+  pub fetch-demand : sizeBad mem j ≡ false → badJournal m j ≡ false → isHalted (m .regs) ≡ false → isIdle (m .regs) ≡ false → fetches (m .regs) ≡ true
       → length mem ≤ index (getD (m .regs) iptrReg 0) → number r ≡ outside
   fetch-demand = step-fetch-outside m h mem j r mem′ j′ step
 
@@ -93,7 +93,7 @@ module _ (m : Machine) (h : length (m .regs) ≡ registers) (mem j : List ℕ) (
   inside-demand = step-longer m h mem j r mem′ j′ step
 
   -- where no earlier number holds, the answer is 11 exactly where the step reaches one of the places that Stop (crates/laws/specs/Stops.antt)
-  pub stop-demand : sizeBad mem j ≡ false → frame m j ≡ false → isHalted (m .regs) ≡ false → isIdle (m .regs) ≡ false
+  pub stop-demand : sizeBad mem j ≡ false → badJournal m j ≡ false → isHalted (m .regs) ≡ false → isIdle (m .regs) ≡ false
       → (number r ≡ stop) ↔ (stops (m .regs) mem ≡ true)
   stop-demand = step-stops m h mem j r mem′ j′ step
 

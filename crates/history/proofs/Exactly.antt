@@ -53,8 +53,8 @@ module _ (m : Machine) where
   pub take-exactly : (channel : ℕ) → AnswersExactly (takeNumbers channel m) (TakeContract channel m)
   take-exactly channel mem j r mem′ j′ e n = exactly (takeNumbers channel m mem j) _ r mem′ j′ e (rules-are.take-exactly m mem j channel) n
 
-  pub give-exactly : (channel byte : ℕ) → AnswersExactly (giveNumbers channel byte m) (GiveContract channel byte m)
-  give-exactly channel byte mem j r mem′ j′ e n = exactly (giveNumbers channel byte m mem j) _ r mem′ j′ e (rules-are.give-exactly m mem j channel byte) n
+  pub give-exactly : (channel byte : ℕ) → AnswersExactly (giveNumbers channel m) (GiveContract channel byte m)
+  give-exactly channel byte mem j r mem′ j′ e n = exactly (giveNumbers channel m mem j) _ r mem′ j′ e (rules-are.give-exactly m mem j channel byte) n
 
   pub event-exactly : AnswersExactly (eventNumbers m) (EventContract m)
   event-exactly mem j r mem′ j′ e n = exactly (eventNumbers m mem j) _ r mem′ j′ e (rules-are.event-exactly m mem j) n

@@ -15,7 +15,7 @@ use Rattle.rules.specs.Calls as rules
 use Rattle.rules.specs.declared.Machine.{Machine}
 use Rattle.rules.specs.declared.Reply.{Reply}
 use Rattle.laws.specs.Alike.{Witness}
-use Rattle.refusals.specs.Conditions.{frame, isHalted, isIdle, fetches, stops}
+use Rattle.refusals.specs.Conditions.{badJournal, isHalted, isIdle, fetches, stops}
 use Rattle.refusals.specs.Outside.{appended}
 use Rattle.refusals.proofs.Outside as refusals
 use Rattle.refusals.proofs.Rings as rings
@@ -35,12 +35,12 @@ module _ (m : Machine) (h : length (m .regs) ≡ registers) (mem j : List ℕ) (
       (ap (appended x) step ∙ sym (refusals.step-longer m mem x j h l k (λ e. n (ap (λ (o : Outcome). o .answer) step ∙ e))))
 
   -- the answer is 10 where (c) applies and Iptr is outside memory
-  pub step-fetch-outside : sizeBad mem j ≡ false → frame m j ≡ false → isHalted (m .regs) ≡ false → isIdle (m .regs) ≡ false → fetches (m .regs) ≡ true
+  pub step-fetch-outside : sizeBad mem j ≡ false → badJournal m j ≡ false → isHalted (m .regs) ≡ false → isIdle (m .regs) ≡ false → fetches (m .regs) ≡ true
       → length mem ≤ index (getD (m .regs) iptrReg 0) → number r ≡ outside
   step-fetch-outside s f k i c o = ap (λ (o : Outcome). o .answer) step ∙ refusals.step-fetch-outside m mem j h s f k i c o .0
 
   -- the answer is 11 exactly where the step reaches a place that Stops
-  pub step-stops : sizeBad mem j ≡ false → frame m j ≡ false → isHalted (m .regs) ≡ false → isIdle (m .regs) ≡ false → (number r ≡ stop) ↔ (stops (m .regs) mem ≡ true)
+  pub step-stops : sizeBad mem j ≡ false → badJournal m j ≡ false → isHalted (m .regs) ≡ false → isIdle (m .regs) ≡ false → (number r ≡ stop) ↔ (stops (m .regs) mem ≡ true)
   step-stops s f k i =
       let told = rings.step-stops m mem j h s f k i in
       let e = ap (λ (o : Outcome). o .answer) step in

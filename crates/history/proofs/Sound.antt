@@ -71,9 +71,9 @@ unrecord-last x k h front j t =
 -- ---- the checks before an undo
 
 -- a record has at least 46 words, so the bounds of the journal stay good
-frame-good : (size depth used n : ℕ) → boundsBad size depth used ≡ false → recordLength 0 ≤ n → used + n ≤ size → boundsBad size (depth + 1) (used + n) ≡ false
+bounds-good : (size depth used n : ℕ) → boundsBad size depth used ≡ false → recordLength 0 ≤ n → used + n ≤ size → boundsBad size (depth + 1) (used + n) ≡ false
 unfolding boundsBad
-frame-good size depth used n e l f = go (ltb size used) (ltb used (recordLength 0 * depth)) refl e
+bounds-good size depth used n e l f = go (ltb size used) (ltb used (recordLength 0 * depth)) refl e
   where
     go : (a b : Bool) → ltb used (recordLength 0 * depth) ≡ b → (a || b) ≡ false → (ltb size (used + n) || ltb (used + n) (recordLength 0 * (depth + 1))) ≡ false
     go true b q z = cc
@@ -105,5 +105,5 @@ sound =
           let q = effect-is x y w b (byteOf c x) (work c x) e in
           let l : recordLength 0 ≤ length w = rw (q .1) (omega (arith, length-record (x .mem) (x .regs) (places x (work c x)) h)) in
           let z = guard-told (call c) x size depth used g in
-          rw (q .0, length-stores (x .mem) (work c x .stored), z .0, frame-good size depth used (length w) (z .1) l r);
+          rw (q .0, length-stores (x .mem) (work c x .stored), z .0, bounds-good size depth used (length w) (z .1) l r);
     }

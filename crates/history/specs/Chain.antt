@@ -1,6 +1,5 @@
 -- Chains: sequences of public calls by their contracts alone, each call from the state that the call before left.
 use mathlib.Core.Path.{_≡_}
-use mathlib.Core.Bool.{}
 use mathlib.Core.List.{List, [], _∷_, _++_}
 use Prim.Native.Nat.{ℕ}
 use lib.Dec.{eqb}

@@ -1,9 +1,9 @@
-pub mod Chain
-pub mod Contracts
-pub mod Counted
-pub mod Functions
-pub mod Given
-pub mod Loose
 pub mod Machine
 pub mod T414
+pub mod Contracts
+pub mod Given
+pub mod Counted
+pub mod Chain
+pub mod Functions
 pub mod Wrong
+pub mod Loose

@@ -1,5 +1,5 @@
 pub mod Made
 pub mod Pairs
 pub mod Refusing
-pub mod Settled
-pub mod Undo
+pub mod CommitOrRefuse
+pub mod Undone

@@ -73,9 +73,9 @@ module _ (badChannel : Bool) (n l depth used : ℕ) where
     unfolding firstBad
     bad-channel k = rw (h, k)
 
-    pub bad-frame : badChannel ≡ false → boundsBad l depth used ≡ true → 4 ≡ firstBad badChannel n l depth used
+    pub bad-bounds : badChannel ≡ false → boundsBad l depth used ≡ true → 4 ≡ firstBad badChannel n l depth used
     unfolding firstBad
-    bad-frame k f = rw (h, k, f)
+    bad-bounds k f = rw (h, k, f)
 
     pub bad-none : badChannel ≡ false → boundsBad l depth used ≡ false → 0 ≡ firstBad badChannel n l depth used
     unfolding firstBad
@@ -140,8 +140,8 @@ module _ (badChannel : Bool) (m : Machine) (mem j : List ℕ) where
     pub channel-good : badChannel ≡ false
     channel-good = parts .1
 
-    pub frame-good : boundsBad (length j) (m .depth) (m .used) ≡ false
-    frame-good = parts .2
+    pub bounds-good : boundsBad (length j) (m .depth) (m .used) ≡ false
+    bounds-good = parts .2
 
 -- ---- 12, the last number, is no number below it
 

@@ -1,7 +1,5 @@
-// Commits a plan (writes its record, makes its stores) and undoes the last record (01, The journal). journal_small commits a
-// call that makes no plan.
+// Commits a plan: writes its record, makes its stores (01, The journal). journal_small commits a call that makes no plan.
 use crate::stores;
-use crate::undo_parts;
 use journal_record::bounds;
 use journal_record::bounds::EMPTY_RECORD;
 use journal_record::record;
@@ -12,11 +10,11 @@ use rules::Machine;
 use rules::Reply;
 ghost use mathlib.Core.Path.{_≡_};
 ghost use mathlib.Core.Bool.{false};
-ghost use Prim.Native.Nat.{_+_, _<_, _≤_};
+ghost use Prim.Native.Nat.{_≤_};
 ghost use lib.ListN.{length};
 ghost use Rattle.rules.specs.Memory.{stores, touched};
 ghost use Rattle.rules.specs.Journal as journalRules;
-ghost use Rattle.rules.specs.Calls.{outcomeOf, recorded, undoLast};
+ghost use Rattle.rules.specs.Calls.{outcomeOf, recorded};
 ghost use Rattle.plan.specs.View.{view};
 
 // Commits a plan: writes its record at used, then makes its stores. Refuses with JournalFull where the record does not fit.
@@ -44,37 +42,5 @@ pub fn commit(m: Machine, p: Plan, byte: u8, mem: &mut [u32], journal: &mut [u32
         machine,
         answer: Answer::Done,
         byte,
-    }
-}
-
-// Undoes the last record: restores registers and memory as before that call. Writes no journal word. Refuses with JournalBad where
-// the record is longer than used or has an index outside memory.
-pub fn undo_last(m: Machine, mem: &mut [u32], journal: &[u32]) -> Reply
-    requires { ⌜ (journalRules.boundsBad (length (now journal)) (m .depth) (m .used) ≡ false) × (0 < m .depth) ⌝ }
-    ensures { λ r. ⌜ outcomeOf r (now (mem .exit)) (now (journal .entry)) ≡ undoLast m (now (mem .entry)) (now (journal .entry)) ⌝ }
-{
-    let used = m.used;
-    let depth = m.depth;
-    let last = used - 1;
-    let pairs = journal[last] as usize;
-    let size = EMPTY_RECORD + 2 * pairs;
-    if used < size {
-        return bounds::refusal(m, Answer::JournalBad);
-    }
-    let start = used - size;
-    if undo_parts::strays(journal, start, pairs, mem.len()) {
-        return bounds::refusal(m, Answer::JournalBad);
-    }
-    undo_parts::write_back(mem, journal, start, pairs);
-    let regs = undo_parts::get_regs(journal, used - EMPTY_RECORD);
-    let machine = Machine {
-        regs,
-        depth: depth - 1,
-        used: start,
-    };
-    Reply {
-        machine,
-        answer: Answer::Done,
-        byte: 0,
     }
 }

@@ -2,6 +2,6 @@
 // `commitOrRefuse`, `recorded` and `undoLast` of rules/specs/Calls.antt.
 pub mod checks; // Size, BadChannel, JournalBad; a refusal by its number
 pub mod outcome; // commits a plan or refuses it
-pub mod commit; // commits a plan; undoes the last record
+pub mod commit; // commits a plan
 pub mod stores; // makes the stores of a plan
-pub mod undo_parts; // tests and reads the last record
+pub mod undo; // undoes the last record

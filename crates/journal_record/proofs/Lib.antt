@@ -1,4 +1,4 @@
-pub mod Frame
+pub mod JournalBounds
 pub mod Merge
 pub mod Outcomes
 pub mod Sorting

@@ -12,7 +12,7 @@ ghost use Rattle.laws.specs.Lists.{Below};
 ghost use Rattle.journal_record.specs.Indices.{range};
 ghost use Rattle.journal_record.specs.Outline.{Outlined, listed};
 
-// The registers of the first of two copies.
+// The number of registers in the first of two copies.
 const HALF: usize = (REGISTERS + 1) / 2;
 
 // Writes the pairs of the words ix[f..t].

@@ -1,1 +1,1 @@
-pub mod Brief
+pub mod CommonStep

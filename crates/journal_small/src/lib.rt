@@ -10,6 +10,7 @@ use rules::Core;
 use rules::Machine;
 use rules::REGISTERS;
 use rules::Reply;
+use rules::names::*;
 use step_fast::FastStep;
 ghost use mathlib.Core.Path.{_≡_};
 ghost use mathlib.Core.Bool.{false};
@@ -29,13 +30,13 @@ fn with_core(regs: [u32; REGISTERS], s: Core) -> [u32; REGISTERS]
     ensures { λ r. ⌜ r ≡ withCore s regs ⌝ }
 {
     let mut t = regs;
-    t[0] = s.iptr;
-    t[1] = s.wdesc;
-    t[2] = s.a;
-    t[3] = s.b;
-    t[4] = s.c;
-    t[5] = s.oreg;
-    t[6] = s.status;
+    t[IPTR_REG] = s.iptr;
+    t[WDESC_REG] = s.wdesc;
+    t[AREG] = s.a;
+    t[BREG] = s.b;
+    t[CREG] = s.c;
+    t[OREG] = s.oreg;
+    t[STATUS_REG] = s.status;
     t
 }
 

@@ -1,5 +1,4 @@
 -- The eight calls keep the lengths of registers, memory and journal; a refused call changes nothing; clear, undo and fresh write no journal word.
---
 use mathlib.Core.Path.{_≡_, refl, _∙_}
 use mathlib.Core.Bool.{Bool, true, false, _||_}
 use mathlib.Core.List.{List, [], _∷_}
@@ -140,9 +139,9 @@ pub length-lastRegs : (j : List ℕ) (used : ℕ) → used ≤ length j → reco
 unfolding lastRegs
 length-lastRegs j used u l = length-take-le registers (drop (used - recordLength 0) j) (simp length-drop (omega arith))
 
-frame-within : (size depth used : ℕ) → boundsBad size depth used ≡ false → used ≤ size
+bounds-within : (size depth used : ℕ) → boundsBad size depth used ≡ false → used ≤ size
 unfolding boundsBad
-frame-within size depth used e = go (ltb size used) refl e
+bounds-within size depth used e = go (ltb size used) refl e
   where
     go : (t : Bool) → ltb size used ≡ t → (t || ltb used (recordLength 0 * depth)) ≡ false → used ≤ size
     go true h q = absurd (let z : _≡_ {A = ℕ} 0 1 = cc in omega arith)
@@ -174,7 +173,7 @@ module _ (m : Machine) (mem j : List ℕ) (h : length (m .regs) ≡ registers) w
     where
       go : (t : Bool) → boundsBad (length j) (m .depth) (m .used) ≡ t → Kept mem j (pick t (refused 4 m mem j) o)
       go true e = kept-refused 4 (omega arith)
-      go false e = k (frame-within (length j) (m .depth) (m .used) e)
+      go false e = k (bounds-within (length j) (m .depth) (m .used) e)
 
   pub kept-step : Kept mem j (step m mem j)
   unfolding step

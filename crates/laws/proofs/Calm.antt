@@ -1,5 +1,5 @@
--- What keeps every property of the answer (Fine) keeps a refusal, and what asks nothing of 11 Stops nowhere. So how a test of a place tells whether
--- the work there Stops.
+-- What keeps every property of the answer (Fine) keeps a refusal, and what asks nothing of 11 Stops nowhere. So a test of a place tells
+-- whether the work there Stops.
 use mathlib.Core.Path.{_≡_, refl, sym, subst, _∙_}
 use mathlib.Core.Logic.{_↔_}
 use mathlib.Core.Bool.{Bool, true, false, _&&_, not}
@@ -12,10 +12,10 @@ use lib.ListN.{length}
 use Rattle.rules.specs.Words.{index}
 use Rattle.rules.specs.Registers.{registers}
 use Rattle.rules.specs.Work.{Work, stop, outside, refuseAt, refuse, access, kindLoad, wordAt, readWord}
-use Rattle.rules.proofs.Tests.{yes-lt, no-lt, yes-eq, cases-lt, cases-eq}
+use Rattle.rules.proofs.Tests.{yes-lt, yes-eq, cases-lt, cases-eq}
 use Rattle.laws.specs.Ring.{isOutside}
 use Rattle.laws.specs.Stops.{going}
-use Rattle.laws.proofs.Fine.{Fine, Turns, fine-access}
+use Rattle.laws.proofs.Fine.{Fine, Turns, AnswerIs, never-turns, fine-outside}
 
 pub never : {A : Type 0} → _≡_ {A = Bool} false true → A
 never e = absurd (let z : _≡_ {A = ℕ} 0 1 = cc in omega arith)
@@ -78,27 +78,18 @@ pub same-stop : (w v : Work) → length (w .regs) ≡ registers
     → ((P : ℕ → ℕ → ℕ → Type 0) → ((k : ℕ) → (k ≡ stop → ⊥) → Turns P k) → Fine P w → Fine P v) → eqb (w .answer) stop ≡ eqb (v .answer) stop
 same-stop w v h keep = same-number stop (λ q. omega (arith, q)) (λ q. omega (arith, q)) w v h keep
 
--- ---- an access inside memory changes nothing; one outside is refused for good
-
--- an access outside memory was met
-pub record Out (w : Work) : Type 0 where
-  pub is : w .answer ≡ outside
+-- ---- an access inside memory changes nothing; an access outside is refused for good
 
 module _ (m : List ℕ) (kind a : ℕ) (w : Work) where
   pub inside-same : index a < length m → access m kind a w ≡ w
   unfolding access
   inside-same h = yes-lt h w (refuseAt outside kind a w)
 
-  pub outside-out : length m ≤ index a → w .answer ≡ 0 → Out (access m kind a w)
-  unfolding access refuseAt
-  outside-out h e = record { is = rw (no-lt h, yes-eq e) }
-
-  -- after one outside, whatever keeps every property is not refused with Stop
-  pub lost : length (w .regs) ≡ registers → length m ≤ index a → w .answer ≡ 0 → (v : Work) → Keeping (access m kind a w) v → Calm v
-  lost h out e v keep =
-      let f = keep (Answer (Is outside)) (λ k kind a q. absurd (let z : _≡_ {A = ℕ} 0 10 = q in omega arith))
-      (is-fine outside (access m kind a w) (fine-access m kind a (calm-none h e) .count) (λ q. omega (arith, q)) (outside-out out e .is)) in
-      not-fine stop v (f .count) (λ q. omega (arith, q)) (λ q. omega (arith, q, f .known))
+  -- after an access outside memory, whatever keeps every property is not refused with Stop
+  pub outside-calm : length (w .regs) ≡ registers → length m ≤ index a → w .answer ≡ 0 → (v : Work) → Keeping (access m kind a w) v → Calm v
+  outside-calm h out e v keep =
+      let f = keep (AnswerIs outside kind a) (never-turns outside kind a (λ q. omega (arith, q))) (fine-outside m kind a w h e out) in
+      not-fine stop v (f .count) (λ q. omega (arith, q)) (λ q. omega (arith, q, f .known .0))
 
 -- ---- a test of a place tells whether it Stops
 
@@ -134,4 +125,4 @@ pub tells-read : (m : List ℕ) (a : ℕ) (next : ℕ → Work → Work) (w : Wo
 tells-read m a next w t h e keep f =
     cases-lt (index a) (length m)
     (λ b. rw (lt-leb (length m) (index a) b) (subst (λ (x : Work). Tells t (next (wordAt m a w) x)) (sym (inside-same m kindLoad a w b)) f))
-    (λ b. rw (le-leb (length m) (index a) b) (tells-calm (lost m kindLoad a w h b e (readWord m a next w) keep)))
+    (λ b. rw (le-leb (length m) (index a) b) (tells-calm (outside-calm m kindLoad a w h b e (readWord m a next w) keep)))

@@ -1,20 +1,19 @@
--- Work keeps its registers: there are 45 of them. And its answer, with the kind and address of its access, keeps a property that 10 has where 0 has
--- it: to be one of 01's numbers, say, or not to be 9. A refusal that comes first stays. What can Stop asks the same of 11, and so on.
-use mathlib.Core.Path.{_≡_, subst, _∙_}
+-- Fine work has 45 registers, and its answer, with the kind and address of its access, has a property P: to be one of 01's numbers, say, or not to be 9.
+-- P must turn from no refusal to 10, since any access may be outside. What refuses with another number asks the same of that number.
+use mathlib.Core.Path.{_≡_, refl, sym, subst, _∙_}
 use mathlib.Core.List.{List}
 use Prim.Native.Nat.{ℕ, _≤_}
 use native.Mathlib.Omega.{arith}
 use lib.ListN.{length, length-set}
+use Rattle.rules.specs.Words.{index}
 use Rattle.rules.specs.Registers.{registers, withCore, withSystem}
 use Rattle.rules.specs.Memory.{Store}
-use Rattle.rules.specs.Work.{Work, begin, put, raise, lower, gotoSNP, putCore, putSystem, outside, stop, refuseAt, refuse, append, attempted, putBoth, access, storeWord, storeByte, rIndexWord, rIndexByte, wIndexWord, moveOrRefuse, transfer}
+use Rattle.rules.specs.Work.{Work, begin, put, putCore, putSystem, outside, refuseAt, refuse, append, access, moveOrRefuse, transfer}
 use Rattle.rules.specs.declared.Core.{Core}
 use Rattle.rules.specs.declared.System.{System}
-use Rattle.rules.specs.declared.Attempt.{Attempt}
-use Rattle.rules.specs.declared.Both.{Both}
-use Rattle.rules.proofs.Tests.{yes-eq, no-eq, cases-eq, on-pick, on-lt, on-eq}
+use Rattle.rules.proofs.Tests.{no-lt, yes-eq, no-eq, cases-eq, on-lt, on-eq}
 
--- where a property of an answer, the kind of its access and its address holds of no refusal, it holds of each refusal with this number
+-- P turns from no refusal to any refusal with this number
 abbrev pub Turns : (ℕ → ℕ → ℕ → Type 0) → ℕ → Type 0
 Turns P number = (k a : ℕ) → P 0 k a → (kind address : ℕ) → P number kind address
 
@@ -43,18 +42,6 @@ module _ {P : ℕ → ℕ → ℕ → Type 0} where
   unfolding put
   fine-put k v {w} f = record { count = length-set (w .regs) k v ∙ f .count; known = f .known; ten = f .ten }
 
-  pub fine-raise : (k mask : ℕ) {w : Work} → Fine P w → Fine P (raise k mask w)
-  unfolding raise
-  fine-raise k mask f = fine-put _ _ f
-
-  pub fine-lower : (k mask : ℕ) {w : Work} → Fine P w → Fine P (lower k mask w)
-  unfolding lower
-  fine-lower k mask f = fine-put _ _ f
-
-  pub fine-gotoSNP : {w : Work} → Fine P w → Fine P (gotoSNP w)
-  unfolding gotoSNP
-  fine-gotoSNP f = fine-raise _ _ f
-
   pub fine-putCore : (s : Core) {w : Work} → Fine P w → Fine P (putCore s w)
   unfolding putCore
   fine-putCore s {w} f = record { count = length-withCore s (w .regs) ∙ f .count; known = f .known; ten = f .ten }
@@ -79,46 +66,33 @@ module _ {P : ℕ → ℕ → ℕ → Type 0} where
   unfolding append
   fine-append s f = on-eq (Fine P) _ _ (record { count = f .count; known = f .known; ten = f .ten }) f
 
-  -- ---- operations on registers alone
-
-  pub fine-attempted : (t : Attempt) → Turns P stop → {w : Work} → Fine P w → Fine P (attempted t w)
-  unfolding attempted
-  fine-attempted t s f = on-pick (Fine P) (t .stops) (fine-refuse stop s f) (fine-putCore _ f)
-
-  pub fine-putBoth : (t : Both) {w : Work} → Fine P w → Fine P (putBoth t w)
-  unfolding putBoth
-  fine-putBoth t f = fine-putSystem _ (fine-putCore _ f)
-
   -- ---- accesses
 
   pub fine-access : (m : List ℕ) (kind a : ℕ) {w : Work} → Fine P w → Fine P (access m kind a w)
   unfolding access
   fine-access m kind a f = on-lt (Fine P) _ _ f (fine-refuseAt _ _ _ (f .ten) f)
 
-  pub fine-storeWord : (m : List ℕ) (a v : ℕ) {w : Work} → Fine P w → Fine P (storeWord m a v w)
-  unfolding storeWord
-  fine-storeWord m a v f = fine-append _ (fine-access m _ _ f)
-
-  pub fine-storeByte : (m : List ℕ) (a b : ℕ) {w : Work} → Fine P w → Fine P (storeByte m a b w)
-  unfolding storeByte
-  fine-storeByte m a b f = fine-append _ (fine-access m _ _ f)
-
-  pub fine-rIndexWord : (m : List ℕ) (base n k : ℕ) {w : Work} → Fine P w → Fine P (rIndexWord m base n k w)
-  unfolding rIndexWord
-  fine-rIndexWord m base n k f = fine-put _ _ (fine-access m _ _ f)
-
-  pub fine-rIndexByte : (m : List ℕ) (base k : ℕ) {w : Work} → Fine P w → Fine P (rIndexByte m base k w)
-  unfolding rIndexByte
-  fine-rIndexByte m base k f = fine-put _ _ (fine-access m _ _ f)
-
-  pub fine-wIndexWord : (m : List ℕ) (base n v : ℕ) {w : Work} → Fine P w → Fine P (wIndexWord m base n v w)
-  unfolding wIndexWord
-  fine-wIndexWord m base n v f = fine-storeWord m _ _ f
-
-  pub fine-moveOrRefuse : (m : List ℕ) (first : ℕ × ℕ) (source destination n : ℕ) {w : Work} → Fine P w → Fine P (moveOrRefuse m first source destination n w)
-  unfolding moveOrRefuse
-  fine-moveOrRefuse m first source destination n f = on-eq (Fine P) _ _ (fine-append _ f) (fine-refuseAt _ _ _ (f .ten) f)
-
   pub fine-transfer : (m : List ℕ) (source destination n : ℕ) {w : Work} → Fine P w → Fine P (transfer m source destination n w)
-  unfolding transfer
-  fine-transfer m source destination n f = on-eq (Fine P) _ _ f (fine-moveOrRefuse m _ _ _ _ f)
+  unfolding transfer moveOrRefuse
+  fine-transfer m source destination n f = on-eq (Fine P) _ _ f (on-eq (Fine P) _ _ (fine-append _ f) (fine-refuseAt _ _ _ (f .ten) f))
+
+-- ---- the first refusal stays, with the kind and address of its access
+
+abbrev pub AnswerIs : ℕ → ℕ → ℕ → ℕ → ℕ → ℕ → Type 0
+AnswerIs n k a number kind address = (number ≡ n) × (kind ≡ k) × (address ≡ a)
+
+pub never-turns : (n k a : ℕ) → (n ≡ 0 → ⊥) → (number : ℕ) → Turns (AnswerIs n k a) number
+never-turns n k a h number k′ a′ z kind address = absurd (h (sym (z .0)))
+
+pub refused-with : (number kind a : ℕ) (w : Work) → w .answer ≡ 0
+    → refuseAt number kind a w ≡ record { regs = w .regs; stored = w .stored; answer = number; kind = kind; address = a }
+unfolding refuseAt
+refused-with number kind a w e = rw (yes-eq e)
+
+-- refuse an access outside memory
+pub fine-outside : (mem : List ℕ) (kind a : ℕ) (w : Work) → length (w .regs) ≡ registers → w .answer ≡ 0 → length mem ≤ index a
+    → Fine (AnswerIs outside kind a) (access mem kind a w)
+unfolding access
+fine-outside mem kind a w c e h =
+    rw (no-lt h, refused-with outside kind a w e)
+    (record { count = c; known = (refl, refl, refl); ten = never-turns outside kind a (λ z. omega (arith, z)) outside })

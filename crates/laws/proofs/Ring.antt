@@ -1,5 +1,5 @@
--- A walk with a budget of turns above the number of words comes to what the walk with the list of the pointer values passed comes to: where the
--- budget runs out, a value comes again. For any step along words.
+-- A walk with a budget of more turns than there are words has the result of the walk that lists the pointer values passed: where the budget runs
+-- out, a value comes again. For any step along words.
 use mathlib.Core.Path.{_≡_, refl, sym, _∙_}
 use mathlib.Core.Bool.{Bool, true, false}
 use mathlib.Core.Logic.{_↔_, _⊎_, inl, inr, ⊎-elim}
@@ -41,7 +41,7 @@ has-cases k x xs e = go (eqb k x) refl e
     go false t e = inr e
 
 module _ (next : ℕ → ℕ) (ends : ℕ → Bool) where
-  -- the walk comes to one thing
+  -- a walk has one result
   pub walks-unique : {l : List ℕ} {p : ℕ} {r r′ : Way} → Walks next ends l p r → Walks next ends l p r′ → r ≡ r′
   walks-unique (again a) (again b) = refl
   walks-unique (again a) (stays b y) = cc

@@ -1,7 +1,7 @@
 -- The places of an instruction read neither Iptr nor Oreg, so their tests are the same after the fetch as at the step's start.
 use mathlib.Core.Path.{_≡_, refl, sym, ap, _∙_}
-use mathlib.Core.Bool.{Bool, true, false}
-use mathlib.Core.List.{List, [], _∷_}
+use mathlib.Core.Bool.{true}
+use mathlib.Core.List.{List, []}
 use Prim.Native.Nat.{ℕ, _+_, _≤_}
 use native.Mathlib.Omega.{arith}
 use lib.Dec.{eqb}
@@ -19,6 +19,7 @@ use Rattle.rules.specs.Step.{fetched}
 use Rattle.rules.proofs.Tests.{yes-lt, no-lt, yes-eq, no-eq, cases-lt, cases-eq}
 use Rattle.laws.specs.Ring.{comesAgain, isOutside, nextPointer, insertEnds, deleteEnds, insertRings, deleteRings}
 use Rattle.laws.specs.Stops.{Place, shiftStops, longShiftStops, insertStarted, insertStops, deleteStops, unmarked, enbtStops, tinStops, distStops, stateLoaded, linkLoaded, markStops, taltwtStops, stopPlaces, nowhere}
+use Rattle.laws.proofs.Rows.{none, _&_, look-rows}
 
 -- register i is one that no place reads: Iptr or Oreg
 module _ (i x : ℕ) (apart : (k : ℕ) → 1 ≤ k → (k ≡ oreg → ⊥) → k ≡ i → ⊥) (m : List ℕ) where
@@ -158,26 +159,13 @@ module _ (i x : ℕ) (apart : (k : ℕ) → 1 ≤ k → (k ≡ oreg → ⊥) →
       let u = stateLoaded m w in
       rw (state-past w, c-past u, wdesc-past u, load-past (wptr u) tlinkS breg u (omega arith) (λ e. omega (arith, e)), mark-past (linkLoaded m u))
 
-  -- every row of the table
-  infixr 5 _&_
-  data AllPast : List (ℕ × Place) → Type 0 where
-    end : AllPast []
-    _&_ : {code : ℕ} {p : Place} {t : List (ℕ × Place)} → ((w : Work) → p m (put i x w) ≡ p m w) → AllPast t → AllPast ((code, p) ∷ t)
+  abbrev Past : ℕ → Place → Type 0
+  Past code p = (w : Work) → p m (put i x w) ≡ p m w
 
-  all-past : AllPast stopPlaces
-  all-past = tin-past & dist-past & long-shift-past & long-shift-past & shift-past & shift-past & enbt-past & taltwt-past & end
-
-  look-past : (t : List (ℕ × Place)) → AllPast t → (code : ℕ) (w : Work) → look t code nowhere m (put i x w) ≡ look t code nowhere m w
-  look-past [] end code w = refl
-  look-past ((k, p) ∷ t) (q & qs) code w = go (eqb code k) (look-past t qs code w)
-    where
-      go : (s : Bool) → look t code nowhere m (put i x w) ≡ look t code nowhere m w
-          → pick s p (look t code nowhere) m (put i x w) ≡ pick s p (look t code nowhere) m w
-      go true e = q w
-      go false e = e
-
-  place-past : (code : ℕ) (w : Work) → look stopPlaces code nowhere m (put i x w) ≡ look stopPlaces code nowhere m w
-  place-past code w = look-past stopPlaces all-past code w
+  place-past : (code : ℕ) → Past code (look stopPlaces code nowhere)
+  place-past code =
+      look-rows Past stopPlaces (tin-past & dist-past & long-shift-past & long-shift-past & shift-past & shift-past & enbt-past & taltwt-past & none)
+      code nowhere (λ l w. refl)
 
 pub place-fetched : (code byte : ℕ) (m : List ℕ) (w : Work) → look stopPlaces code nowhere m (fetched byte w) ≡ look stopPlaces code nowhere m w
 unfolding fetched

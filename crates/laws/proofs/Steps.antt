@@ -11,11 +11,10 @@ use Rattle.rules.specs.Registers.{registers, wdescReg, areg}
 use Rattle.rules.specs.Work.{Work, reg, put, lower, priority, stop}
 use Rattle.rules.specs.Timers.{tptrLoc, insertFirstStep, deleteFirstStep}
 use Rattle.laws.specs.Stops.{going, insertStarted, deleteStarted, insertStops, deleteStops}
-use Rattle.laws.proofs.Fine.{fine-lower, fine-wIndexWord}
-use Rattle.laws.proofs.FineTimers.{fine-insertWalk}
+use Rattle.laws.proofs.Lawful.{kept, lawful-lower, lawful-wIndexWord}
+use Rattle.laws.proofs.LawfulTimerQueues.{lawful-insertWalk}
 use Rattle.laws.proofs.Calm.{Calm, any-fine, Tells, regroup, tells-going}
-use Rattle.laws.proofs.InsertRing.{insert-tells}
-use Rattle.laws.proofs.DeleteRing.{delete-tells}
+use Rattle.laws.proofs.TimerRings.{insert-tells, delete-tells}
 
 -- TPtrLoc is words 9 and 10
 queue-word : (queue : ℕ) → queue < 2 → index (tptrLoc queue) < 64
@@ -32,10 +31,10 @@ lower-answer k mask w = refl
 
 module _ (m : List ℕ) (w : Work) (count : length (w .regs) ≡ registers) where
   pub started-count : length (insertStarted m w .regs) ≡ registers
-  started-count = fine-wIndexWord m _ _ _ (fine-wIndexWord m _ _ _ (any-fine w count)) .count
+  started-count = kept (lawful-wIndexWord _ _ _) m (kept (lawful-wIndexWord _ _ _) m (any-fine w count)) .count
 
   pub off-count : length (deleteStarted w .regs) ≡ registers
-  off-count = fine-lower _ _ (any-fine w count) .count
+  off-count = kept (lawful-lower _ _) m (any-fine w count) .count
 
   pub off-answer : w .answer ≡ 0 → deleteStarted w .answer ≡ 0
   off-answer e = lower-answer _ _ w ∙ e
@@ -49,5 +48,5 @@ pub insert-stops : (m : List ℕ) {w : Work} → Calm w → Tells (insertStops m
 unfolding insertFirstStep insertStops
 insert-stops m {w} c =
     regroup (going (insertStarted m w)) _ _ (insertFirstStep m w)
-    (tells-going (insertStarted m w) (insertFirstStep m w) _ (fine-wIndexWord m _ _ _ (fine-wIndexWord m _ _ _ c)) (λ P t f. fine-insertWalk m _ _ _ (t stop) f)
+    (tells-going (insertStarted m w) (insertFirstStep m w) _ (kept (lawful-wIndexWord _ _ _) m (kept (lawful-wIndexWord _ _ _) m c)) (λ P t f. kept (lawful-insertWalk (t stop) _ _ _) m f)
     (λ e. insert-tells m (reg areg w) _ (started-count m w (c .count)) e (tptrLoc (priority w))))

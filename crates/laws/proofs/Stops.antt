@@ -1,11 +1,11 @@
 -- The tests of the places where a step Stops tell where it does: each operation, and each request, is refused with 11 exactly where the test of
 -- its place holds (01, Answers by number, 11; DECISIONS 26, 27).
-use mathlib.Core.Path.{_≡_, refl, sym, subst, _∙_}
+use mathlib.Core.Path.{_≡_, refl, sym, _∙_}
 use mathlib.Core.Bool.{Bool, true, false, _&&_, _||_, not}
-use mathlib.Core.List.{List, [], _∷_}
+use mathlib.Core.List.{List, []}
 use Prim.Native.Nat.{ℕ}
 use native.Mathlib.Omega.{arith}
-use borrow.Author.Tests.{lt-ltb, le-ltb, eq-eqb, ne-eqb, eqb-true}
+use borrow.Author.Tests.{lt-ltb, le-ltb, eq-eqb, ne-eqb}
 use lib.Bits.{bitAnd}
 use lib.Dec.{ltb, eqb}
 use lib.ListN.{length}
@@ -19,15 +19,16 @@ use Rattle.rules.specs.Timers.{nextTime, insertFirstStep, deleteFirstStep, tin,
 use Rattle.rules.specs.Channels.{readyStatus, readyContent, handleReadyRequest, handleChannelRequest}
 use Rattle.rules.specs.Operations.{registerOperations, otherOperations, operations, operate}
 use Rattle.rules.specs.declared.Attempt.{Attempt}
-use Rattle.rules.proofs.Tests.{yes-lt, no-lt, yes-eq, no-eq, cases-eq, cases-lt, by-bool}
-use Rattle.laws.specs.Lists.{listed}
+use Rattle.rules.proofs.Tests.{yes-lt, no-lt, yes-eq, no-eq, cases-eq, cases-lt}
 use Rattle.laws.specs.Ring.{isOutside}
 use Rattle.laws.specs.Stops.{Place, going, insertStops, shiftStops, longShiftStops, isMark, unmarked, enbtStops, tinStops, distStops, stateLoaded, markStops, taltwtStops, deleteStops, stopPlaces, canStop, nowhere, readyOrWaiting, channelStatus, requestStops, timerStops}
-use Rattle.laws.proofs.Fine.{fine-access, fine-put, fine-putCore, fine-lower, fine-rIndexWord, fine-wIndexWord, fine-refuse}
-use Rattle.laws.proofs.FineScheduling.{fine-wait}
-use Rattle.laws.proofs.FineTimers.{fine-nextTime, fine-dropB, fine-timeNow, fine-enbtFirst, fine-enbtEarlier, fine-enbtLink, fine-enbtGuard, fine-distReady, fine-distLink, fine-deleteFirstStep, fine-timedOut, fine-timerStatus, fine-timerUnlink}
-use Rattle.laws.proofs.FineChannels.{fine-readyWaiting, fine-readyStatus, fine-readyContent, fine-handleRunRequest}
-use Rattle.laws.proofs.FineOperations.{look-unlisted, fine-operate}
+use Rattle.laws.proofs.Fine.{fine-access, fine-put, fine-putCore, fine-refuse}
+use Rattle.laws.proofs.Lawful.{kept, lawful-lower, lawful-rIndexWord, lawful-wIndexWord}
+use Rattle.laws.proofs.LawfulScheduling.{lawful-wait}
+use Rattle.laws.proofs.LawfulTimers.{lawful-deleteFirstStep, lawful-distLink, lawful-distReady, lawful-dropB, lawful-enbtEarlier, lawful-enbtFirst, lawful-enbtGuard, lawful-enbtLink, lawful-nextTime, lawful-timeNow, lawful-timedOut, lawful-timerStatus, lawful-timerUnlink}
+use Rattle.laws.proofs.LawfulChannels.{lawful-handleRunRequest, lawful-readyContent, lawful-readyStatus, lawful-readyWaiting}
+use Rattle.laws.proofs.LawfulOperations.{lawful-operate}
+use Rattle.laws.proofs.Rows.{Rows, none, _&_, look-rows}
 use Rattle.laws.proofs.Calm.{never, and-false, not-turns, Calm, calm-none, any-fine, same-stop, Tells, tells-calm, tells-stop, regroup, tells-going, tells-read}
 use Rattle.laws.proofs.Steps.{insert-stops, delete-stops}
 
@@ -54,8 +55,8 @@ attempt-stops t {w} b = go (t .stops)
     go false = tells-calm (fine-putCore (t .core) (calm b))
 
 -- an operation that Stops above a count
-above : (n count : ℕ) (x y : Attempt) → x .stops ≡ true → y .stops ≡ false → ltb n count ≡ ifLt n count x y .stops
-above n count x y p q =
+stops-above : (n count : ℕ) (x y : Attempt) → x .stops ≡ true → y .stops ≡ false → ltb n count ≡ ifLt n count x y .stops
+stops-above n count x y p q =
     cases-lt n count
     (λ h. rw (yes-lt h, lt-ltb n count h) (sym p))
     (λ h. rw (no-lt h, le-ltb n count h) (sym q))
@@ -63,19 +64,19 @@ above n count x y p q =
 module _ (m : List ℕ) {w : Work} (b : Begun w) where
   shl-stops : Tells (shiftStops m w) (onAttempt stack.shl w)
   unfolding stack.shl coreOf
-  shl-stops = above 32 (reg areg w) _ _ refl refl ∙ attempt-stops (stack.shl (coreOf (w .regs))) b
+  shl-stops = stops-above 32 (reg areg w) _ _ refl refl ∙ attempt-stops (stack.shl (coreOf (w .regs))) b
 
   shr-stops : Tells (shiftStops m w) (onAttempt stack.shr w)
   unfolding stack.shr coreOf
-  shr-stops = above 32 (reg areg w) _ _ refl refl ∙ attempt-stops (stack.shr (coreOf (w .regs))) b
+  shr-stops = stops-above 32 (reg areg w) _ _ refl refl ∙ attempt-stops (stack.shr (coreOf (w .regs))) b
 
   lshl-stops : Tells (longShiftStops m w) (onAttempt stack.lshl w)
   unfolding stack.lshl coreOf
-  lshl-stops = above 64 (reg areg w) _ _ refl refl ∙ attempt-stops (stack.lshl (coreOf (w .regs))) b
+  lshl-stops = stops-above 64 (reg areg w) _ _ refl refl ∙ attempt-stops (stack.lshl (coreOf (w .regs))) b
 
   lshr-stops : Tells (longShiftStops m w) (onAttempt stack.lshr w)
   unfolding stack.lshr coreOf
-  lshr-stops = above 64 (reg areg w) _ _ refl refl ∙ attempt-stops (stack.lshr (coreOf (w .regs))) b
+  lshr-stops = stops-above 64 (reg areg w) _ _ refl refl ∙ attempt-stops (stack.lshr (coreOf (w .regs))) b
 
 -- ---- tin and taltwt
 
@@ -87,7 +88,7 @@ time-stops m {w} {v} c d = go (later (reg (clockReg (priority w)) w) (reg areg w
   where
     go : (t : Bool) → Tells (not t && insertStops m (nextTime w)) (pick t v (insertFirstStep m (nextTime w)))
     go true = tells-calm d
-    go false = insert-stops m (fine-nextTime c)
+    go false = insert-stops m (kept lawful-nextTime m c)
 
 tin-stops : (m : List ℕ) {w : Work} → Begun w → Tells (tinStops m w) (tin m w)
 unfolding tin
@@ -97,13 +98,13 @@ mark-stops : (m : List ℕ) {w : Work} → Calm w → Tells (markStops m w) (tal
 unfolding markStops taltwtLink taltwtTime
 mark-stops m {w} c =
     cases-eq (reg breg w) timeNotSet
-    (λ e. rw (yes-eq e, eq-eqb (reg breg w) timeNotSet e, ne-eqb (reg breg w) timeSet (λ q. omega (arith, e, q)), and-false (going w)) (tells-calm (fine-wait m c)))
+    (λ e. rw (yes-eq e, eq-eqb (reg breg w) timeNotSet e, ne-eqb (reg breg w) timeSet (λ q. omega (arith, e, q)), and-false (going w)) (tells-calm (kept lawful-wait m c)))
     (λ n. cases-eq (reg breg w) timeSet
-    (λ e. rw (no-eq n, yes-eq e, eq-eqb (reg breg w) timeSet e, ne-eqb (reg breg w) timeNotSet n, and-false (going w)) (time-stops m loaded (fine-timeNow m (fine-wIndexWord m _ _ _ loaded))))
+    (λ e. rw (no-eq n, yes-eq e, eq-eqb (reg breg w) timeSet e, ne-eqb (reg breg w) timeNotSet n, and-false (going w)) (time-stops m loaded (kept lawful-timeNow m (kept (lawful-wIndexWord _ _ _) m loaded))))
     (λ k. rw (no-eq n, no-eq k, ne-eqb (reg breg w) timeSet k, ne-eqb (reg breg w) timeNotSet n) neither))
   where
     loaded : Calm (rIndexWord m (wptr w) timeS areg w)
-    loaded = fine-rIndexWord m _ _ _ c
+    loaded = kept (lawful-rIndexWord _ _ _) m c
 
     neither : Tells ((going w && true) || false) (refuse stop w)
     neither = or-false (going w && true) ∙ tells-going w (refuse stop w) true c (λ P t f. fine-refuse stop (t stop) f) (λ e. tells-stop w e)
@@ -112,11 +113,11 @@ taltwt-stops : (m : List ℕ) {w : Work} → Begun w → Tells (taltwtStops m w)
 unfolding taltwtStops taltwt taltwtState
 taltwt-stops m {w} b =
     cases-eq (reg creg (stateLoaded m w)) ready
-    (λ e. rw (yes-eq e, eq-eqb (reg creg (stateLoaded m w)) ready e) (tells-calm (fine-timeNow m loaded)))
-    (λ e. rw (no-eq e, ne-eqb (reg creg (stateLoaded m w)) ready e) (mark-stops m (fine-rIndexWord m _ _ _ loaded)))
+    (λ e. rw (yes-eq e, eq-eqb (reg creg (stateLoaded m w)) ready e) (tells-calm (kept lawful-timeNow m loaded)))
+    (λ e. rw (no-eq e, ne-eqb (reg creg (stateLoaded m w)) ready e) (mark-stops m (kept (lawful-rIndexWord _ _ _) m loaded)))
   where
     loaded : Calm (stateLoaded m w)
-    loaded = fine-rIndexWord m _ _ _ (fine-wIndexWord m _ _ _ (calm b))
+    loaded = kept (lawful-rIndexWord _ _ _) m (kept (lawful-wIndexWord _ _ _) m (calm b))
 
 -- ---- enbt and dist
 
@@ -124,21 +125,21 @@ enbt-link-stops : (m : List ℕ) (link : ℕ) {w : Work} → Begun w → Tells (
 unfolding enbtLink
 enbt-link-stops m link {w} b =
     cases-eq link timeNotSet
-    (λ e. rw (yes-eq e, eq-eqb link timeNotSet e) (tells-calm (fine-enbtFirst m (calm b))))
+    (λ e. rw (yes-eq e, eq-eqb link timeNotSet e) (tells-calm (kept lawful-enbtFirst m (calm b))))
     (λ n. cases-eq link timeSet
-    (λ e. rw (no-eq n, yes-eq e, ne-eqb link timeNotSet n, eq-eqb link timeSet e) (tells-calm (fine-enbtEarlier m _ (fine-access m kindLoad _ (calm b)))))
+    (λ e. rw (no-eq n, yes-eq e, ne-eqb link timeNotSet n, eq-eqb link timeSet e) (tells-calm (kept (lawful-enbtEarlier _) m (fine-access m kindLoad _ (calm b)))))
     (λ k. rw (no-eq n, no-eq k, ne-eqb link timeNotSet n, ne-eqb link timeSet k) (tells-stop w (b .none))))
 
 enbt-stops : (m : List ℕ) {w : Work} → Begun w → Tells (enbtStops m w) (enbt m w)
 unfolding enbtStops unmarked enbt enbtGuard
-enbt-stops m {w} b = guard ∙ same-stop (enbtGuard m w) (enbt m w) (fine-enbtGuard m (λ k a z kind address. tt) (any-fine w (b .count)) .count) (λ P t f. fine-dropB f)
+enbt-stops m {w} b = guard ∙ same-stop (enbtGuard m w) (enbt m w) (kept (lawful-enbtGuard (λ k a z kind address. tt)) m (any-fine w (b .count)) .count) (λ P t f. kept lawful-dropB m f)
   where
     guard : Tells (enbtStops m w) (enbtGuard m w)
     guard =
         cases-eq (reg areg w) 0
         (λ e. rw (yes-eq e, eq-eqb (reg areg w) 0 e) (tells-calm (calm b)))
         (λ e. rw (no-eq e, ne-eqb (reg areg w) 0 e)
-        (tells-read m (atWord (wptr w) tlinkS) (enbtLink m) w _ (b .count) (b .none) (λ P t f. fine-enbtLink m _ (t stop) f) (enbt-link-stops m _ b)))
+        (tells-read m (atWord (wptr w) tlinkS) (enbtLink m) w _ (b .count) (b .none) (λ P t f. kept (lawful-enbtLink (t stop) _) m f) (enbt-link-stops m _ b)))
 
 dist-link-stops : (m : List ℕ) (link : ℕ) {w : Work} → Begun w → Tells (not (isMark link) && deleteStops m w) (distLink m link w)
 unfolding distLink distSet
@@ -146,9 +147,9 @@ dist-link-stops m link {w} b =
     cases-eq link timeNotSet
     (λ e. rw (yes-eq e, eq-eqb link timeNotSet e) (tells-calm (fine-put areg 0 (calm b))))
     (λ n. cases-eq link timeSet
-    (λ e. rw (no-eq n, yes-eq e, ne-eqb link timeNotSet n, eq-eqb link timeSet e) (tells-calm (fine-distReady m _ (fine-access m kindLoad _ (calm b)))))
+    (λ e. rw (no-eq n, yes-eq e, ne-eqb link timeNotSet n, eq-eqb link timeSet e) (tells-calm (kept (lawful-distReady _) m (fine-access m kindLoad _ (calm b)))))
     (λ k. rw (no-eq n, no-eq k, ne-eqb link timeNotSet n, ne-eqb link timeSet k)
-    (delete-stops m w (b .count) (b .none) ∙ same-stop (deleteFirstStep m w) (put areg 0 (deleteFirstStep m w)) (fine-deleteFirstStep m (λ k a z kind address. tt) (any-fine w (b .count)) .count) (λ P t f. fine-put areg 0 f))))
+    (delete-stops m w (b .count) (b .none) ∙ same-stop (deleteFirstStep m w) (put areg 0 (deleteFirstStep m w)) (kept (lawful-deleteFirstStep (λ k a z kind address. tt)) m (any-fine w (b .count)) .count) (λ P t f. fine-put areg 0 f))))
 
 dist-stops : (m : List ℕ) {w : Work} → Begun w → Tells (distStops m w) (dist m w)
 unfolding distStops unmarked dist
@@ -157,7 +158,7 @@ dist-stops m {w} b =
     (λ e. rw (yes-eq e, eq-eqb (reg breg w) 0 e) (tells-calm (fine-put areg 0 (calm b))))
     (λ e. rw (no-eq e, ne-eqb (reg breg w) 0 e)
     (regroup (not (isOutside m (atWord (wptr w) tlinkS))) _ _ (readWord m (atWord (wptr w) tlinkS) (distLink m) w)
-    (tells-read m (atWord (wptr w) tlinkS) (distLink m) w _ (b .count) (b .none) (λ P t f. fine-distLink m _ (t stop) f) (dist-link-stops m _ b))))
+    (tells-read m (atWord (wptr w) tlinkS) (distLink m) w _ (b .count) (b .none) (λ P t f. kept (lawful-distLink (t stop) _) m f) (dist-link-stops m _ b))))
 
 -- ---- requests
 
@@ -167,7 +168,7 @@ status-stops m queue front status {w} b =
     cases-eq status ready
     (λ e. rw (yes-eq e, eq-eqb status ready e) (tells-calm (calm b)))
     (λ n. cases-eq status waiting
-    (λ e. rw (no-eq n, yes-eq e, ne-eqb status ready n, eq-eqb status waiting e) (tells-calm (fine-timedOut m queue front (calm b))))
+    (λ e. rw (no-eq n, yes-eq e, ne-eqb status ready n, eq-eqb status waiting e) (tells-calm (kept (lawful-timedOut queue front) m (calm b))))
     (λ k. rw (no-eq n, no-eq k, ne-eqb status ready n, ne-eqb status waiting k) (tells-stop w (b .none))))
 
 -- the queue is unlinked: what remains is the front process
@@ -176,25 +177,25 @@ front-stops : (m : List ℕ) (queue front : ℕ) {w : Work} → Calm w
 unfolding timerWake
 front-stops m queue front {w} c =
     regroup (going w) _ _ (timerWake m queue front w)
-    (tells-going w (timerWake m queue front w) _ c (λ P t f. fine-timerStatus m _ _ _ (t stop) (fine-access m kindLoad _ f))
+    (tells-going w (timerWake m queue front w) _ c (λ P t f. kept (lawful-timerStatus (t stop) _ _ _) m (fine-access m kindLoad _ f))
     (λ e. let b : Begun w = record { count = c .count; none = e } in
-    tells-read m (atWord front pointerS) (timerStatus m queue front) w _ (c .count) e (λ P t f. fine-timerStatus m _ _ _ (t stop) f) (status-stops m queue front _ b)))
+    tells-read m (atWord front pointerS) (timerStatus m queue front) w _ (c .count) e (λ P t f. kept (lawful-timerStatus (t stop) _ _ _) m f) (status-stops m queue front _ b)))
 
 pub timer-stops : (m : List ℕ) (queue : ℕ) {w : Work} → Begun w → Tells (timerStops queue m w) (handleTimerRequest m queue w)
 unfolding timerStops handleTimerRequest timerServe timerFront lower put wordAt
 timer-stops m queue {w} b =
-    front-stops m queue _ (fine-timerUnlink m _ _ _ (fine-access m kindLoad _ (fine-access m kindLoad _ (fine-lower flagsReg (tEnabled queue) (calm b)))))
+    front-stops m queue _ (kept (lawful-timerUnlink _ _ _) m (fine-access m kindLoad _ (fine-access m kindLoad _ (kept (lawful-lower flagsReg (tEnabled queue)) m (calm b)))))
 
 ready-status-stops : (m : List ℕ) (content status : ℕ) {w : Work} → Begun w
     → Tells (not (eqb status enabling || readyOrWaiting status)) (readyStatus m content status w)
 unfolding readyStatus
 ready-status-stops m content status {w} b =
     cases-eq status enabling
-    (λ e. rw (yes-eq e, eq-eqb status enabling e) (tells-calm (fine-wIndexWord m _ _ _ (calm b))))
+    (λ e. rw (yes-eq e, eq-eqb status enabling e) (tells-calm (kept (lawful-wIndexWord _ _ _) m (calm b))))
     (λ l. cases-eq status ready
     (λ e. rw (no-eq l, yes-eq e, ne-eqb status enabling l, eq-eqb status ready e) (tells-calm (calm b)))
     (λ n. cases-eq status waiting
-    (λ e. rw (no-eq l, no-eq n, yes-eq e, ne-eqb status enabling l, ne-eqb status ready n, eq-eqb status waiting e) (tells-calm (fine-readyWaiting m content (calm b))))
+    (λ e. rw (no-eq l, no-eq n, yes-eq e, ne-eqb status enabling l, ne-eqb status ready n, eq-eqb status waiting e) (tells-calm (kept (lawful-readyWaiting content) m (calm b))))
     (λ k. rw (no-eq l, no-eq n, no-eq k, ne-eqb status enabling l, ne-eqb status ready n, ne-eqb status waiting k) (tells-stop w (b .none)))))
 
 -- both loads, then the status
@@ -204,20 +205,20 @@ content-stops : (m : List ℕ) (hc : ℕ) {w : Work} → Begun w
 unfolding handleReadyRequest readyContent
 content-stops m hc {w} b =
     regroup (not (isOutside m (atWord portBase hc))) _ _ (handleReadyRequest m hc w)
-    (tells-read m (atWord portBase hc) (readyContent m) w _ (b .count) (b .none) (λ P t f. fine-readyContent m _ (t stop) f)
-    (tells-read m (channelStatus hc m w) (readyStatus m (wordAt m (atWord portBase hc) w)) w _ (b .count) (b .none) (λ P t f. fine-readyStatus m _ _ (t stop) f)
+    (tells-read m (atWord portBase hc) (readyContent m) w _ (b .count) (b .none) (λ P t f. kept (lawful-readyContent (t stop) _) m f)
+    (tells-read m (channelStatus hc m w) (readyStatus m (wordAt m (atWord portBase hc) w)) w _ (b .count) (b .none) (λ P t f. kept (lawful-readyStatus (t stop) _ _) m f)
     (ready-status-stops m _ _ b)))
 
 lowered : (k mask : ℕ) {w : Work} → Begun w → Begun (lower k mask w)
 unfolding lower put
-lowered k mask {w} b = record { count = fine-lower k mask (any-fine w (b .count)) .count; none = b .none }
+lowered k mask {w} b = record { count = kept (lawful-lower k mask) [] (any-fine w (b .count)) .count; none = b .none }
 
 pub request-stops : (m : List ℕ) (hc : ℕ) {w : Work} → Begun w → Tells (requestStops hc m w) (handleChannelRequest m hc w)
 unfolding requestStops handleChannelRequest lower put wordAt
 request-stops m hc {w} b =
     cases-eq (bitAnd (reg (channelReg hc) w) runRequest) 0
     (λ e. rw (yes-eq e, eq-eqb (bitAnd (reg (channelReg hc) w) runRequest) 0 e) (content-stops m hc (lowered (channelReg hc) readyRequest b)))
-    (λ e. rw (no-eq e, ne-eqb (bitAnd (reg (channelReg hc) w) runRequest) 0 e) (tells-calm (fine-handleRunRequest m hc (fine-lower (channelReg hc) runRequest (calm b)))))
+    (λ e. rw (no-eq e, ne-eqb (bitAnd (reg (channelReg hc) w) runRequest) 0 e) (tells-calm (kept (lawful-handleRunRequest hc) m (kept (lawful-lower (channelReg hc) runRequest) m (calm b)))))
 
 -- ---- operations
 
@@ -225,12 +226,7 @@ request-stops m hc {w} b =
 Row : ℕ → Place → Type 0
 Row code p = (m : List ℕ) (w : Work) → Begun w → Tells (p m w) (operate code m w)
 
-infixr 5 _&_
-data Rows : List (ℕ × Place) → Type 0 where
-  end : Rows []
-  _&_ : {code : ℕ} {p : Place} {t : List (ℕ × Place)} → Row code p → Rows t → Rows ((code, p) ∷ t)
-
-rows : Rows stopPlaces
+rows : Rows Row stopPlaces
 unfolding Row operate registerOperations otherOperations operations
 rows =
     (λ m w b. tin-stops m b) &
@@ -241,22 +237,12 @@ rows =
     (λ m w b. shl-stops m b) &
     (λ m w b. enbt-stops m b) &
     (λ m w b. taltwt-stops m b) &
-    end
-
-row-of : (t : List (ℕ × Place)) → Rows t → (code : ℕ) → listed code t ≡ true → Row code (look t code nowhere)
-row-of [] end code h = never h
-row-of ((k, p) ∷ t) (r & rs) code h = go (eqb code k) refl h (row-of t rs code)
-  where
-    go : (s : Bool) → eqb code k ≡ s → pick s true (listed code t) ≡ true → (listed code t ≡ true → Row code (look t code nowhere))
-        → Row code (pick s p (look t code nowhere))
-    go true e z f = subst (λ (c : ℕ). Row c p) (sym (eqb-true code k e)) r
-    go false e z f = f z
+    none
 
 -- every operation: one without a place Stops nowhere
 pub operate-stops : (code : ℕ) (m : List ℕ) {w : Work} → Begun w → Tells (look stopPlaces code nowhere m w) (operate code m w)
 unfolding canStop Row
 operate-stops code m {w} b =
-    by-bool (listed code stopPlaces)
-    (λ l. row-of stopPlaces rows code l m w b)
-    (λ l. rw (look-unlisted stopPlaces code nowhere l)
-    (tells-calm (fine-operate code m (λ z. never (sym l ∙ z)) (λ z. not-turns stop unlisted (λ q. omega (arith, q))) (calm b))))
+    look-rows Row stopPlaces rows code nowhere
+    (λ l m w b. tells-calm (kept (lawful-operate code (λ z. never (sym l ∙ z)) (λ z. not-turns stop unlisted (λ q. omega (arith, q)))) m (calm b)))
+    m w b

@@ -1,4 +1,4 @@
--- 01's number determines the answer, and what a call comes to determines its reply, memory and journal: no second answer meets a contract that
+-- 01's number determines the answer, and the outcome of a call determines its reply, memory and journal: no second answer meets a contract that
 -- is an equation of outcomes (01, What the contracts have to say).
 use mathlib.Core.Path.{_≡_, refl, sym, ap, _∙_}
 use mathlib.Core.Bool.{Bool, true, false}
@@ -59,7 +59,7 @@ number-answer n h =
 pub one-answer : (a b : Answer) → numberOf a ≡ numberOf b → a ≡ b
 one-answer a b e = sym (answer-number a) ∙ ap answerOf e ∙ answer-number b
 
--- ---- what a call comes to determines its reply, memory and journal
+-- ---- the outcome of a call determines its reply, memory and journal
 
 same-reply : (r r′ : Reply) → r .machine ≡ r′ .machine → r .answer ≡ r′ .answer → r .byte ≡ r′ .byte → r ≡ r′
 same-reply r r′ p q s =

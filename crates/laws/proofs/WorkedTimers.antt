@@ -1,5 +1,4 @@
 -- Insertions of a high process whose workspace lies over the word of its queue, by computation: the walk reads what the same call has stored.
---
 use mathlib.Core.Path.{_≡_, refl}
 use mathlib.Core.List.{List, [], _∷_}
 use Prim.Native.Nat.{ℕ}
@@ -28,16 +27,16 @@ state-over-queue = (refl, refl, refl)
 
 -- Time.s is word 9, and the time is that of NotProcess.p: the process before it in the queue is lost. Then the link to this process comes to stand
 -- over its time, so that its own address becomes the next time
-abbrev pub lost : Work
-lost = insertFirstStep (queued 0x8000_0080) (inserting 0x8000_0038 notProcess)
+abbrev pub overQueue : Work
+overQueue = insertFirstStep (queued 0x8000_0080) (inserting 0x8000_0038 notProcess)
 
-pub time-over-queue : (lost .answer ≡ 0)
-    × (lost .stored
+pub time-over-queue : (overQueue .answer ≡ 0)
+    × (overQueue .stored
     ≡ word 11 waiting ∷ word 9 notProcess ∷ word 9 0x8000_0038 ∷ word 10 notProcess ∷ word 13 memStart ∷ [])
-    × (getD (lost .regs) (tnextReg 0) 0 ≡ 0x8000_0038)
-    × (getD (lost .regs) breg 0 ≡ 0x8000_0038)
-    × (getD (lost .regs) creg 0 ≡ notProcess)
-    × (getD (lost .regs) flagsReg 0 ≡ 2)
-    × (getD (lost .regs) statusReg 0 ≡ 2)
+    × (getD (overQueue .regs) (tnextReg 0) 0 ≡ 0x8000_0038)
+    × (getD (overQueue .regs) breg 0 ≡ 0x8000_0038)
+    × (getD (overQueue .regs) creg 0 ≡ notProcess)
+    × (getD (overQueue .regs) flagsReg 0 ≡ 2)
+    × (getD (overQueue .regs) statusReg 0 ≡ 2)
 unfolding insertFirstStep insertWalk insertFinalStep insertLink insertNext setNext saveIptr wIndexWord rIndexWord storeWord append access refuseAt wordAt put raise gotoSNP stores storing ifLt ifEq later positive sign restoreToRange
 time-over-queue = (refl, refl, refl, refl, refl, refl, refl)

@@ -1,6 +1,6 @@
 -- Every access of a step at the edge of memory, which is 64 words here, at addresses #80000000 to #800000FF. A site is an access, and the
 -- registers and words that put it at a given address. Where that is just inside memory, the step answers 0; where it is just outside, it
--- answers 10 with the access's kind and address (01, Answers by number). `sites-hold` (proofs/Accesses.antt) proves it of each site. They
+-- answers 10 with the access's kind and address (01, Answers by number). `sites-hold` (proofs/WorkedAccesses.antt) proves it of each site. They
 -- stand in the order of the rules' chapters:
 --   fetchSites        the fetch
 --   dataSites         ldl, stl, ldnl, stnl, call, ret, lb, sb, move, saveh, savel, altend

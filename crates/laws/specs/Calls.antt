@@ -1,4 +1,4 @@
--- What the laws say of what a call comes to.
+-- Properties of the outcome of a call, for the laws.
 use mathlib.Core.Path.{_≡_}
 use mathlib.Core.List.{List}
 use Prim.Native.Nat.{ℕ, _≤_}

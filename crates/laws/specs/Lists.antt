@@ -1,4 +1,4 @@
--- What the laws say of lists of numbers, and of tables.
+-- Properties of lists of numbers and of tables, for the laws.
 use mathlib.Core.Logic.{_≢_}
 use mathlib.Core.Bool.{Bool, true, false}
 use mathlib.Core.List.{List, [], _∷_}

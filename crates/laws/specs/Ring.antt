@@ -15,19 +15,19 @@ abbrev pub has : ℕ → List ℕ → Bool
 has p [] = false
 has p (x ∷ xs) = pick (eqb p x) true (has p xs)
 
--- what a walk comes to: it ends at a pointer value, or runs in a ring (01, Answers by number, 11; DECISIONS 27)
+-- the result of a walk: it ends at a pointer value, or runs in a ring (01, Answers by number, 11; DECISIONS 27)
 pub data Way : Type 0 where
   end : ℕ → Way
   round : Way
 
--- `Walks next ends passed p r`: from the pointer value p, with those of the list passed, the walk comes to r
+-- `Walks next ends passed p r`: the walk from the pointer value p, after the values of the list passed, has the result r
 -- (01, Answers by number, 11; DECISIONS 27)
 pub data Walks (next : ℕ → ℕ) (ends : ℕ → Bool) : List ℕ → ℕ → Way → Type 0 where
   again : {passed : List ℕ} {p : ℕ} → has p passed ≡ true → Walks next ends passed p round
   stays : {passed : List ℕ} {p : ℕ} → has p passed ≡ false → ends p ≡ true → Walks next ends passed p (end p)
   goes : {passed : List ℕ} {p : ℕ} {r : Way} → has p passed ≡ false → ends p ≡ false → Walks next ends (p ∷ passed) (next p) r → Walks next ends passed p r
 
--- the same as a test: from the pointer value p, with those of the list passed, the walk comes again to one of them in so many turns
+-- the same as a test: the walk from the pointer value p comes again, in so many turns, to a value that it has passed
 -- (01, Answers by number, 11; DECISIONS 27)
 unfoldable pub comesAgain : (ℕ → ℕ) → (ℕ → Bool) → ℕ → List ℕ → ℕ → Bool
 comesAgain next ends zero passed p = false

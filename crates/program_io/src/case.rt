@@ -10,19 +10,19 @@ ghost use mathlib.Core.Path.{_≡_};
 ghost use lib.ListN.{length};
 ghost use Rattle.program_io.specs.Sizes.{caseHead, responseHead, mostWords, mostJournal};
 
-// The most that a case may ask for.
+// The limits of a case: words of memory, words of journal, bytes of code.
 pub const WORDS: usize = 16400;
 
 pub const JOURNAL: usize = 65600;
 
 const CODE: usize = 65600;
 
-// The call whose code has numbers before it, and their bytes.
+// The call repeat, and the bytes of the numbers before its code.
 pub(crate) const REPEAT: u32 = 8;
 
 pub(crate) const NUMBERS: usize = 20;
 
-// Bytes of a case before its memory, and of a response; bytes of the longest response.
+// The bytes of a case before its memory, of a response before its memory, and of the longest response.
 const CASE_HEAD: usize = 24 + 16 + 4 * rules::REGISTERS;
 
 const RESPONSE_HEAD: usize = 8 + 16 + 4 * rules::REGISTERS;

@@ -2,27 +2,29 @@
 use mathlib.Core.Path.{_≡_, refl, sym, _∙_}
 use mathlib.Core.Bool.{Bool, true, false, _&&_, _||_}
 use mathlib.Core.List.{List, [], _∷_}
-use Prim.Native.Nat.{ℕ, zero, suc, _+_, _≤_, _<_}
+use Prim.Native.Nat.{ℕ, suc, _+_, _≤_, _<_}
 use native.Mathlib.Omega.{arith}
 use borrow.Author.Tests.{lt-leb, ne-eqb, ltb-true}
 use lib.Dec.{ltb, leb, eqb}
 use Rattle.rules.specs.Tests.{pick}
 use Rattle.rules.specs.Operations.{Action, registerOperations, otherOperations, operations}
-use Rattle.rules.proofs.Tests.{cases-eq, cases-lt}
+use Rattle.rules.proofs.Tests.{cases-lt}
 use Rattle.laws.specs.Lists.{listed}
 use Rattle.laws.proofs.Calm.{never, and-false}
+use Rattle.laws.proofs.LawfulOperations.{allBelow, all-below}
 use Rattle.refusals.specs.Conditions.{builtRanges, inRanges, isBuilt}
 
 -- ---- below a bound: by computation
+
+-- a code above every range
+bound : List (ℕ × ℕ) → ℕ
+bound [] = 0
+bound (r ∷ rs) = suc (r .1) + bound rs
 
 same : Bool → Bool → Bool
 same true b = b
 same false true = false
 same false false = true
-
-agree : ℕ → Bool
-agree zero = true
-agree (suc n) = pick (same (isBuilt n) (listed n operations)) (agree n) false
 
 is-same : (a b : Bool) → same a b ≡ true → a ≡ b
 unfolding same
@@ -31,31 +33,20 @@ is-same true false h = never h
 is-same false true h = never h
 is-same false false h = refl
 
-agree-below : (n : ℕ) → agree n ≡ true → (k : ℕ) → k < n → isBuilt k ≡ listed k operations
-unfolding agree
-agree-below zero h k l = absurd (omega arith)
-agree-below (suc n) h k l = go (same (isBuilt n) (listed n operations)) refl h (agree-below n)
-  where
-    go : (t : Bool) → same (isBuilt n) (listed n operations) ≡ t → pick t (agree n) false ≡ true → (agree n ≡ true → (k : ℕ) → k < n → isBuilt k ≡ listed k operations)
-        → isBuilt k ≡ listed k operations
-    go true s q f = cases-eq k n (λ e. rw e (is-same _ _ s)) (λ e. f q k (omega arith))
-    go false s q f = never q
+built-below : (k : ℕ) → k < bound builtRanges → isBuilt k ≡ listed k operations
+unfolding allBelow bound builtRanges registerOperations otherOperations operations isBuilt inRanges same
+built-below k h = is-same _ _ (all-below (bound builtRanges) (λ k. same (isBuilt k) (listed k operations)) refl k h)
 
 -- ---- from the bound on: neither
-
--- a code above every range
-bound : List (ℕ × ℕ) → ℕ
-bound [] = 0
-bound (r ∷ rs) = suc (r .1) + bound rs
 
 bounded : ℕ → List (ℕ × Action) → Bool
 bounded n [] = true
 bounded n (e ∷ t) = pick (ltb (e .0) n) (bounded n t) false
 
-above : (n : ℕ) (t : List (ℕ × Action)) → bounded n t ≡ true → (k : ℕ) → n ≤ k → listed k t ≡ false
+unlisted-above : (n : ℕ) (t : List (ℕ × Action)) → bounded n t ≡ true → (k : ℕ) → n ≤ k → listed k t ≡ false
 unfolding bounded
-above n [] h k l = refl
-above n (e ∷ t) h k l = go (ltb (e .0) n) refl h (above n t)
+unlisted-above n [] h k l = refl
+unlisted-above n (e ∷ t) h k l = go (ltb (e .0) n) refl h (unlisted-above n t)
   where
     go : (b : Bool) → ltb (e .0) n ≡ b → pick b (bounded n t) false ≡ true → (bounded n t ≡ true → (k : ℕ) → n ≤ k → listed k t ≡ false)
         → pick (eqb k (e .0)) true (listed k t) ≡ false
@@ -78,8 +69,6 @@ unfolding isBuilt
 built-above k l = ranges-above builtRanges k l
 
 pub built-listed : (k : ℕ) → isBuilt k ≡ listed k operations
-unfolding agree bound bounded registerOperations otherOperations operations isBuilt inRanges builtRanges same
+unfolding bound bounded registerOperations otherOperations operations builtRanges
 built-listed k =
-    cases-lt k (bound builtRanges)
-    (λ h. agree-below (bound builtRanges) refl k h)
-    (λ h. built-above k h ∙ sym (above (bound builtRanges) operations refl k h))
+    cases-lt k (bound builtRanges) (λ h. built-below k h) (λ h. built-above k h ∙ sym (unlisted-above (bound builtRanges) operations refl k h))

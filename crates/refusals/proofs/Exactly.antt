@@ -2,7 +2,7 @@
 use mathlib.Core.Path.{_≡_, refl, sym, ap, _∙_}
 use mathlib.Core.Bool.{Bool, true, false, _&&_, _||_, not}
 use mathlib.Core.List.{List, [], _∷_, _++_}
-use Prim.Native.Nat.{ℕ, _+_, _<_}
+use Prim.Native.Nat.{ℕ, _<_}
 use native.Mathlib.Omega.{arith}
 use lib.Dec.{ltb, leb, eqb}
 use lib.Bits.{bitAnd}
@@ -20,7 +20,7 @@ use Rattle.rules.specs.Step as steps
 use Rattle.rules.specs.Calls as rules
 use Rattle.rules.specs.declared.Machine.{Machine}
 use Rattle.rules.proofs.Tests.{yes-lt, no-lt, yes-eq, no-eq, by-bool, cases-eq, cases-lt, on-eq, on-lt, on-le}
-use Rattle.refusals.specs.Conditions.{firstOf, frame, lastTooLong, pairOutside, isHalted, asked, isIdle, isUnlisted, isMoving, isHeld, takeNotReady, giveNotReady, pointerOutside, full, givePairs, stepPairs, tickNumbers, takeNumbers, giveNumbers, eventNumbers, undoNumbers, clearNumbers, freshNumbers, stepOutside, stops, stepNumbers}
+use Rattle.refusals.specs.Conditions.{firstOf, badJournal, lastTooLong, pairOutside, isHalted, asked, isIdle, isUnlisted, isMoving, isHeld, takeNotReady, giveNotReady, pointerOutside, full, givePairs, stepPairs, tickNumbers, takeNumbers, giveNumbers, eventNumbers, undoNumbers, clearNumbers, freshNumbers, stepOutside, stops, stepNumbers}
 use Rattle.laws.proofs.Calm.{never}
 use Rattle.refusals.proofs.Own.{own-first}
 use Rattle.refusals.proofs.Stored.{no-pairs, tick-stored, take-stored, event-stored, give-pairs}
@@ -32,7 +32,7 @@ answer-of false o p = refl
 
 -- the checks before a call's own
 checked-answer : (bad : Bool) (m : Machine) (mem j : List ℕ) (o : rules.Outcome) (rest : List (ℕ × Bool)) → o .answer ≡ firstOf rest
-    → rules.checked bad m mem j o .answer ≡ firstOf ((1, rules.sizeBad mem j) ∷ (3, bad) ∷ (4, frame m j) ∷ rest)
+    → rules.checked bad m mem j o .answer ≡ firstOf ((1, rules.sizeBad mem j) ∷ (3, bad) ∷ (4, badJournal m j) ∷ rest)
 unfolding rules.checked firstOf
 checked-answer bad m mem j o rest e = simp answer-of (rw e)
 
@@ -190,7 +190,7 @@ module _ (m : Machine) (mem j : List ℕ) where
       (commit-or-refuse-answer m mem j _ (links.take mem c (begin (m .regs))) ((8, takeNotReady c (m .regs)) ∷ (10, pointerOutside c (m .regs) mem) ∷ []) 0
       (λ t. omega arith, (λ t. omega arith, tt)) (take-own c (m .regs) mem) (λ z. no-pairs _ _ (take-stored mem c (m .regs))))
 
-  pub give-exactly : (c byte : ℕ) → rules.give c byte m mem j .answer ≡ firstOf (giveNumbers c byte m mem j)
+  pub give-exactly : (c byte : ℕ) → rules.give c byte m mem j .answer ≡ firstOf (giveNumbers c m mem j)
   unfolding rules.give
   give-exactly c byte =
       checked-answer (rules.notInput c) m mem j _ _
@@ -211,7 +211,7 @@ module _ (m : Machine) (mem j : List ℕ) where
   unfolding rules.undo rules.checked rules.undoLast rules.undone ifEq ifLt firstOf
   undo-exactly =
       simp answer-of
-      (ap (λ (n : ℕ). pick (rules.sizeBad mem j) 1 n) (undo-rows (frame m j) (lastTooLong m j) (pairOutside m mem j) (m .depth)))
+      (ap (λ (n : ℕ). pick (rules.sizeBad mem j) 1 n) (undo-rows (badJournal m j) (lastTooLong m j) (pairOutside m mem j) (m .depth)))
 
   pub clear-exactly : rules.clear m mem j .answer ≡ firstOf (clearNumbers m mem j)
   unfolding rules.clear firstOf
@@ -238,6 +238,10 @@ halt-answer : (st : ℕ) (w : Work) → steps.haltOnError st w .answer ≡ w .an
 unfolding steps.haltOnError steps.haltIfAsked raise put same-answer
 halt-answer st w = on-eq (same-answer (w .answer)) _ _ (on-eq (same-answer (w .answer)) _ _ refl (on-eq (same-answer (w .answer)) _ _ refl refl)) refl
 
+-- a step's own numbers with their conditions, before 12
+abbrev pub ownNumbers : List ℕ → List ℕ → List (ℕ × Bool)
+ownNumbers r mem = (6, isHalted r) ∷ (7, isIdle r) ∷ (9, isUnlisted r mem) ∷ (10, stepOutside r mem) ∷ (11, stops r mem) ∷ []
+
 module _ (r mem : List ℕ) where
   idle-answer : (bitAnd (getD r flagsReg 0) idleFlag ≡ 0 → ⊥) → steps.instructionUnlessIdle mem (begin r) .answer ≡ 7
   unfolding steps.instructionUnlessIdle
@@ -256,8 +260,7 @@ module _ (r mem : List ℕ) where
       (λ o. rw (yes-eq o, unasked-answer (not-true (asked r) (rw (no-eq i, yes-eq o) at h))) (idle-answer i))
       (λ o. rw (no-eq o) (idle-answer i)))
 
-  step-own : length r ≡ registers → steps.step mem (begin r) .answer
-      ≡ firstOf ((6, isHalted r) ∷ (7, isIdle r) ∷ (9, isUnlisted r mem) ∷ (10, stepOutside r mem) ∷ (11, stops r mem) ∷ [])
+  pub step-own : length r ≡ registers → steps.step mem (begin r) .answer ≡ firstOf (ownNumbers r mem)
   unfolding steps.step firstOf
   step-own k =
       cases-eq (bitAnd (getD r flagsReg 0) haltedFlag) 0
@@ -269,15 +272,6 @@ module _ (r mem : List ℕ) where
 pub step-exactly : (m : Machine) (mem j : List ℕ) → length (m .regs) ≡ registers → rules.step m mem j .answer ≡ firstOf (stepNumbers m mem j)
 unfolding rules.step firstOf
 step-exactly m mem j h =
-    checked-answer false m mem j (rules.commitOrRefuse m mem j 0 (steps.step mem (begin (m .regs)))) (own ++ ((12, full (stepPairs (m .regs) mem) m j) ∷ []))
-    (commit-or-refuse-answer m mem j 0 (steps.step mem (begin (m .regs))) own (stepPairs (m .regs) mem)
+    checked-answer false m mem j (rules.commitOrRefuse m mem j 0 (steps.step mem (begin (m .regs)))) (ownNumbers (m .regs) mem ++ ((12, full (stepPairs (m .regs) mem) m j) ∷ []))
+    (commit-or-refuse-answer m mem j 0 (steps.step mem (begin (m .regs))) (ownNumbers (m .regs) mem) (stepPairs (m .regs) mem)
     (λ t. omega arith, (λ t. omega arith, (λ t. omega arith, (λ t. omega arith, (λ t. omega arith, tt))))) (step-own (m .regs) mem h) (λ z. refl))
-  where
-    own : List (ℕ × Bool)
-    own =
-        (6, isHalted (m .regs))
-        ∷ (7, isIdle (m .regs))
-        ∷ (9, isUnlisted (m .regs) mem)
-        ∷ (10, stepOutside (m .regs) mem)
-        ∷ (11, stops (m .regs) mem)
-        ∷ []

@@ -1,6 +1,6 @@
 pub mod Built
+pub mod Own
+pub mod Stored
 pub mod Exactly
 pub mod Outside
-pub mod Own
 pub mod Rings
-pub mod Stored

@@ -3,7 +3,7 @@
 -- Of a machine of 45 registers.
 use mathlib.Core.Path.{_≡_, refl, sym, _∙_}
 use mathlib.Core.Bool.{Bool, true, false, _||_}
-use mathlib.Core.List.{List, [], _++_}
+use mathlib.Core.List.{List, [], _∷_, _++_}
 use Prim.Native.Nat.{ℕ, _+_, _^_, _≤_, _<_}
 use native.Mathlib.Omega.{arith}
 use borrow.Author.Tests.{le-ltb, ltb-false}
@@ -24,13 +24,14 @@ use Rattle.rules.specs.declared.Machine.{Machine}
 use Rattle.rules.proofs.Tests.{yes-eq, no-eq, cases-eq}
 use Rattle.laws.specs.Alike.{Witness, Alike}
 use Rattle.laws.specs.Alike as alike
-use Rattle.laws.proofs.FineStep.{fine-haltOnError}
+use Rattle.laws.proofs.Lawful.{kept}
+use Rattle.laws.proofs.LawfulStep.{step-alike, FetchRefused, fetch-refused, lawful-haltOnError}
 use Rattle.laws.proofs.Calm.{never}
 use Rattle.laws.proofs.Appended.{stores-appended, touched-appended, record-appended}
-use Rattle.laws.proofs.AlikeStep.{step-alike, FetchRefused, fetch-refused}
-use Rattle.refusals.specs.Conditions.{frame, isHalted, isIdle, fetches}
+use Rattle.refusals.specs.Conditions.{firstOf, badJournal, isHalted, isIdle, fetches, full, stepPairs}
 use Rattle.refusals.specs.Outside.{appended}
 use Rattle.refusals.proofs.Own.{by-choice}
+use Rattle.refusals.proofs.Exactly.{ownNumbers, step-own, step-exactly}
 
 -- ---- a memory that is not refused with 1 is small, and so is the longer one
 
@@ -45,9 +46,44 @@ memory-small mem j h = go (ltb (length mem) 64) (ltb 16384 (length mem)) refl h
 
 -- ---- from the answer of the call to that of its work
 
-answer-of : (t : Bool) (o p : Outcome) → pick t o p .answer ≡ pick t (o .answer) (p .answer)
-answer-of true o p = refl
-answer-of false o p = refl
+ten-own : (own : List (ℕ × Bool)) (f : Bool) → firstOf (own ++ ((12, f) ∷ [])) ≡ outside → firstOf own ≡ outside
+unfolding firstOf
+ten-own [] true h = absurd (omega (arith, h))
+ten-own [] false h = absurd (omega (arith, h))
+ten-own (e ∷ es) f h = go (e .1) (ten-own es f) h
+  where
+    go : (t : Bool) → (firstOf (es ++ ((12, f) ∷ [])) ≡ outside → firstOf es ≡ outside)
+        → pick t (e .0) (firstOf (es ++ ((12, f) ∷ []))) ≡ outside → pick t (e .0) (firstOf es) ≡ outside
+    go true k z = z
+    go false k z = k z
+
+step-ten : (m : Machine) (mem j : List ℕ) → length (m .regs) ≡ registers → rules.step m mem j .answer ≡ outside
+    → (sizeBad mem j ≡ false) × (steps.step mem (begin (m .regs)) .answer ≡ outside)
+unfolding firstOf
+step-ten m mem j h e = go (sizeBad mem j) (badJournal m j) refl (sym (step-exactly m mem j h) ∙ e)
+  where
+    rest : List (ℕ × Bool)
+    rest = ownNumbers (m .regs) mem ++ ((12, full (stepPairs (m .regs) mem) m j) ∷ [])
+
+    go : (a b : Bool) → sizeBad mem j ≡ a → pick a 1 (pick b 4 (firstOf rest)) ≡ outside → (sizeBad mem j ≡ false) × (steps.step mem (begin (m .regs)) .answer ≡ outside)
+    go true b q z = absurd (omega (arith, z))
+    go false true q z = absurd (omega (arith, z))
+    go false false q z = (q, step-own (m .regs) mem h ∙ ten-own (ownNumbers (m .regs) mem) (full (stepPairs (m .regs) mem) m j) z)
+
+-- ---- THE WITNESS: an answer 10 comes with a kind of 1 to 3 and an address that is outside memory
+
+witnessed : (size : ℕ) (w w′ : Work) → w .answer ≡ outside → Alike size w w′ → Witness size w
+witnessed size w w′ e (alike.beyond a c t) = t
+witnessed size w w′ e (alike.refused n o q c c′) = absurd (o e)
+witnessed size w w′ e (alike.same q u) = absurd (omega (arith, e, u .none))
+
+pub step-witness : (m : Machine) (mem j : List ℕ) → length (m .regs) ≡ registers → rules.step m mem j .answer ≡ outside
+    → (steps.step mem (begin (m .regs)) .answer ≡ outside) × Witness (length mem) (steps.step mem (begin (m .regs)))
+step-witness m mem j h e =
+    let c = step-ten m mem j h e in
+    (c .1, witnessed (length mem) _ _ (c .1) (step-alike mem [] (memory-small mem j (c .0)) (m .regs) h))
+
+-- ---- THE LONGER MEMORY: up to 16,384 words in all
 
 -- an accepted call, whose record fits
 abbrev accepted : Machine → List ℕ → List ℕ → ℕ → Work → Outcome
@@ -59,46 +95,6 @@ accepted m mem j byte w =
       memory = stores mem (w .stored);
       journal = sets j (m .used) (recordOf mem (m .regs) (touched (length mem) (w .stored)));
     }
-
-commit-or-refuse-ten : (m : Machine) (mem j : List ℕ) (byte : ℕ) (w : Work) → commitOrRefuse m mem j byte w .answer ≡ outside → w .answer ≡ outside
-unfolding commitOrRefuse recorded ifLt
-commit-or-refuse-ten m mem j byte w h =
-    cases-eq (w .answer) 0
-    (λ e. go (ltb (length j) (m .used + recordLength (length (touched (length mem) (w .stored))))) (rw (yes-eq e) at h))
-    (λ e. rw (no-eq e) at h)
-  where
-    go : (t : Bool) → pick t (refused 12 m mem j) (accepted m mem j byte w) .answer ≡ outside → w .answer ≡ outside
-    go true z = absurd (omega (arith, z))
-    go false z = absurd (omega (arith, z))
-
--- the checks before a call's own passed, where it answers 10
-checked-ten : (bad : Bool) (m : Machine) (mem j : List ℕ) (o : Outcome) → checked bad m mem j o .answer ≡ outside → (sizeBad mem j ≡ false) × (o .answer ≡ outside)
-unfolding checked
-checked-ten bad m mem j o h = go (sizeBad mem j) bad (boundsBad (length j) (m .depth) (m .used)) refl h
-  where
-    go : (a b c : Bool) → sizeBad mem j ≡ a → pick a (refused 1 m mem j) (pick b (refused 3 m mem j) (pick c (refused 4 m mem j) o)) .answer ≡ outside
-        → (sizeBad mem j ≡ false) × (o .answer ≡ outside)
-    go true b c e z = absurd (omega (arith, z))
-    go false true c e z = absurd (omega (arith, z))
-    go false false true e z = absurd (omega (arith, z))
-    go false false false e z = (e, z)
-
--- ---- THE WITNESS: an answer 10 comes with a kind of 1 to 3 and an address that is outside memory
-
-witnessed : (size : ℕ) (w w′ : Work) → w .answer ≡ outside → Alike size w w′ → Witness size w
-witnessed size w w′ e (alike.beyond a c t) = t
-witnessed size w w′ e (alike.refused n o q c c′) = absurd (o e)
-witnessed size w w′ e (alike.same q u) = absurd (omega (arith, e, u .none))
-
-pub step-witness : (m : Machine) (mem j : List ℕ) → length (m .regs) ≡ registers → rules.step m mem j .answer ≡ outside
-    → (steps.step mem (begin (m .regs)) .answer ≡ outside) × Witness (length mem) (steps.step mem (begin (m .regs)))
-unfolding rules.step
-step-witness m mem j h e =
-    let c = checked-ten false m mem j (commitOrRefuse m mem j 0 (steps.step mem (begin (m .regs)))) e in
-    let a = commit-or-refuse-ten m mem j 0 (steps.step mem (begin (m .regs))) (c .1) in
-    (a, witnessed (length mem) _ _ a (step-alike mem [] (memory-small mem j (c .0)) (m .regs) h))
-
--- ---- THE LONGER MEMORY: up to 16,384 words in all
 
 module _ (m : Machine) (mem x j : List ℕ) where
   commit-or-refuse-longer : (w w′ : Work) → Alike (length mem) w w′ → (commitOrRefuse m mem j 0 w .answer ≡ outside → ⊥)
@@ -143,21 +139,21 @@ module _ (m : Machine) (mem x j : List ℕ) where
 -- ---- THE FETCH: where (c) applies and Iptr is outside memory, the answer is 10, of a fetch there
 
 module _ (r mem : List ℕ) (h : length r ≡ registers) (o : length mem ≤ index (getD r iptrReg 0)) where
-  step-lost : isHalted r ≡ false → isIdle r ≡ false → fetches r ≡ true → FetchRefused r (steps.step mem (begin r))
+  step-fetch-refused : isHalted r ≡ false → isIdle r ≡ false → fetches r ≡ true → FetchRefused r (steps.step mem (begin r))
   unfolding steps.step
-  step-lost k i f =
+  step-fetch-refused k i f =
       cases-eq (bitAnd (getD r flagsReg 0) haltedFlag) 0
       (λ e. rw (yes-eq e)
-      (fine-haltOnError _ (by-choice r mem (FetchRefused r) i (λ z a. never (sym z ∙ f)) (λ z a b. never (sym z ∙ f)) (λ z a b. never (sym z ∙ f)) (λ z. fetch-refused r mem h o))))
+      (kept (lawful-haltOnError _) mem (by-choice r mem (FetchRefused r) i (λ z a. never (sym z ∙ f)) (λ z a b. never (sym z ∙ f)) (λ z a b. never (sym z ∙ f)) (λ z. fetch-refused r mem h o))))
       (λ e. never (sym k ∙ rw (no-eq e)))
 
 pub step-fetch-outside : (m : Machine) (mem j : List ℕ) → length (m .regs) ≡ registers
-    → sizeBad mem j ≡ false → frame m j ≡ false → isHalted (m .regs) ≡ false → isIdle (m .regs) ≡ false → fetches (m .regs) ≡ true
+    → sizeBad mem j ≡ false → badJournal m j ≡ false → isHalted (m .regs) ≡ false → isIdle (m .regs) ≡ false → fetches (m .regs) ≡ true
     → length mem ≤ index (getD (m .regs) iptrReg 0)
     → (rules.step m mem j .answer ≡ outside)
     × (steps.step mem (begin (m .regs)) .kind ≡ kindFetch)
     × (steps.step mem (begin (m .regs)) .address ≡ getD (m .regs) iptrReg 0)
 unfolding rules.step checked commitOrRefuse
 step-fetch-outside m mem j h s f k i c o =
-    let q = step-lost (m .regs) mem h o k i c .known in
+    let q = step-fetch-refused (m .regs) mem h o k i c .known in
     (rw (s, f, no-eq {a = steps.step mem (begin (m .regs)) .answer} {b = 0} (λ z. omega (arith, z, q .0))) (q .0), q .1, q .2)

@@ -23,15 +23,15 @@ use Rattle.rules.specs.Step.{fetched, execute, decode, instruction, instruction
 use Rattle.rules.proofs.Tests.{yes, yes-eq, no-eq, by-bool, cases-eq, cases-lt}
 use Rattle.laws.specs.Lists.{listed}
 use Rattle.laws.proofs.Fine.{Fine, Turns, fine-put, fine-putCore}
-use Rattle.laws.proofs.FineScheduling.{fine-actOnSNP}
-use Rattle.laws.proofs.FineTimers.{fine-handleTimerRequest}
-use Rattle.laws.proofs.FineChannels.{fine-handleChannelRequest}
-use Rattle.laws.proofs.FineOperations.{fine-operate, fine-direct, operate-unlisted, function-opr}
-use Rattle.laws.proofs.FineStep.{fine-fetched, fine-instruction}
+use Rattle.laws.proofs.Lawful.{kept}
+use Rattle.laws.proofs.LawfulScheduling.{lawful-actOnSNP}
+use Rattle.laws.proofs.LawfulTimers.{lawful-handleTimerRequest}
+use Rattle.laws.proofs.LawfulChannels.{lawful-handleChannelRequest}
+use Rattle.laws.proofs.LawfulStep.{fetch-refused, lawful-fetched, lawful-instruction}
+use Rattle.laws.proofs.LawfulOperations.{lawful-operate, lawful-direct, operate-unlisted, function-opr}
 use Rattle.laws.proofs.Calm.{never, Answer, Not, not-turns, not-fine, any-fine, same-number, same-stop, Tells, inside-same}
 use Rattle.laws.proofs.Stops.{Begun, request-stops, timer-stops, operate-stops}
 use Rattle.laws.proofs.Start.{place-fetched}
-use Rattle.laws.proofs.AlikeStep.{fetch-refused}
 use Rattle.refusals.specs.Conditions.{firstOf, fetches, isIdle, isBuilt, nextByte, operates, nextCode, isUnlisted, operationStops, serviceStops, stops}
 use Rattle.refusals.proofs.Built.{built-listed}
 
@@ -75,10 +75,10 @@ module _ (r mem : List ℕ) (h : length r ≡ registers) where
   pub own-known : isIdle r ≡ false → Mine (choose mem (begin r) .answer)
   own-known i =
       by-choice r mem (λ w. Mine (w .answer)) i
-      (λ f a. fine-actOnSNP mem (fine-handleChannelRequest mem _ stopped fine) .known)
-      (λ f a b. fine-actOnSNP mem (fine-handleTimerRequest mem 0 stopped fine) .known)
-      (λ f a b. fine-actOnSNP mem (fine-handleTimerRequest mem 1 stopped fine) .known)
-      (λ f. fine-instruction mem stopped (turns 9 (omega arith) (omega arith)) fine .known)
+      (λ f a. kept lawful-actOnSNP mem (kept (lawful-handleChannelRequest stopped _) mem fine) .known)
+      (λ f a b. kept lawful-actOnSNP mem (kept (lawful-handleTimerRequest stopped 0) mem fine) .known)
+      (λ f a b. kept lawful-actOnSNP mem (kept (lawful-handleTimerRequest stopped 1) mem fine) .known)
+      (λ f. kept (lawful-instruction stopped (turns 9 (omega arith) (omega arith))) mem fine .known)
     where
       turns : (n : ℕ) → 9 ≤ n → n ≤ 11 → Turns (Answer Mine) n
       turns n small large k a z kind address = inr (small, large)
@@ -95,7 +95,7 @@ module _ (r mem : List ℕ) (h : length r ≡ registers) where
   afterFetch = fetched (nextByte r mem) (begin r)
 
   fetch-count : length (afterFetch .regs) ≡ registers
-  fetch-count = fine-fetched _ (any-fine (begin r) h) .count
+  fetch-count = kept (lawful-fetched _) mem (any-fine (begin r) h) .count
 
   fetch-answer : afterFetch .answer ≡ 0
   unfolding fetched put
@@ -134,7 +134,7 @@ module _ (r mem : List ℕ) (h : length r ≡ registers) where
         (λ n₆. rw (no-eq n₂, no-eq n₆)
         (cases-eq (nextByte r mem / 2 ^ 4) 0xF
         (λ e. subst (λ (c : ℕ). Told (actOnSNP mem (put oreg 0 (function c mem (afterFetch))))) (sym e) (rw (function-opr mem (afterFetch), operand) (is-opr e)))
-        (λ n₁₅. told-not _ (not-opr n₁₅) (fine-actOnSNP mem (fine-put oreg 0 (fine-direct (nextByte r mem / 2 ^ 4) mem small n₂ n₆ n₁₅ plain)) .known)))))
+        (λ n₁₅. told-not _ (not-opr n₁₅) (kept lawful-actOnSNP mem (fine-put oreg 0 (kept (lawful-direct (nextByte r mem / 2 ^ 4) small n₂ n₆ n₁₅) mem plain)) .known)))))
       where
         not-opr : (nextByte r mem / 2 ^ 4 ≡ 0xF → ⊥) → operates r mem ≡ false
         not-opr q = rw (f, lt-ltb (index (getD r iptrReg 0)) (length mem) b, ne-eqb (nextByte r mem / 2 ^ 4) 0xF q)
@@ -144,8 +144,8 @@ module _ (r mem : List ℕ) (h : length r ≡ registers) where
             rw (f, lt-ltb (index (getD r iptrReg 0)) (length mem) b, eq-eqb (nextByte r mem / 2 ^ 4) 0xF e)
             (told
             ∙ same-number n some other (operate (nextCode r mem) mem (afterFetch)) _
-            (fine-operate (nextCode r mem) mem (λ c k a z kind address. tt) (λ l k a z kind address. tt) (any-fine _ fetch-count) .count)
-            (λ P t f. fine-actOnSNP mem (fine-put oreg 0 f)))
+            (kept (lawful-operate (nextCode r mem) (λ c k a z kind address. tt) (λ l k a z kind address. tt)) mem (any-fine _ fetch-count) .count)
+            (λ P t f. kept lawful-actOnSNP mem (fine-put oreg 0 f)))
 
     told-instruction : Told (instruction mem (begin r))
     unfolding instruction Told
@@ -162,7 +162,7 @@ module _ (r mem : List ℕ) (h : length r ≡ registers) where
   operate-nine =
       by-bool (listed (nextCode r mem) operations)
       (λ l. rw (built-listed (nextCode r mem), l)
-      (sym (ne-eqb _ 9 (fine-operate (nextCode r mem) mem (λ c. not-turns 9 11 (λ q. omega (arith, q))) (λ z. never (sym z ∙ l)) plain .known))))
+      (sym (ne-eqb _ 9 (kept (lawful-operate (nextCode r mem) (λ c. not-turns 9 11 (λ q. omega (arith, q))) (λ z. never (sym z ∙ l))) mem plain .known))))
       (λ l. rw (built-listed (nextCode r mem), l, operate-unlisted (nextCode r mem) mem (afterFetch) l, yes-eq fetch-answer) refl)
     where
       plain : Fine (Answer (Not 9)) (afterFetch)
@@ -185,9 +185,9 @@ module _ (r mem : List ℕ) (h : length r ≡ registers) where
   unfolding isUnlisted Told
   own-nine i =
       by-choice r mem (λ w. isUnlisted r mem ≡ eqb (w .answer) 9) i
-      (λ f a. served-nine f _ (λ P s g. fine-actOnSNP mem (fine-handleChannelRequest mem (requested (begin r)) s g)))
-      (λ f a b. served-nine f _ (λ P s g. fine-actOnSNP mem (fine-handleTimerRequest mem 0 s g)))
-      (λ f a b. served-nine f _ (λ P s g. fine-actOnSNP mem (fine-handleTimerRequest mem 1 s g)))
+      (λ f a. served-nine f _ (λ P s g. kept lawful-actOnSNP mem (kept (lawful-handleChannelRequest s (requested (begin r))) mem g)))
+      (λ f a b. served-nine f _ (λ P s g. kept lawful-actOnSNP mem (kept (lawful-handleTimerRequest s 0) mem g)))
+      (λ f a b. served-nine f _ (λ P s g. kept lawful-actOnSNP mem (kept (lawful-handleTimerRequest s 1) mem g)))
       (λ f. told-instruction 9 (λ q. omega (arith, q)) (λ q. omega (arith, q)) _ operate-nine f)
 
   -- ---- 11
@@ -196,13 +196,13 @@ module _ (r mem : List ℕ) (h : length r ≡ registers) where
   unfolding stops operationStops serviceStops Told ifLt
   own-eleven i =
       by-choice r mem (λ w. Tells (stops r mem) w) i
-      (λ f a. rw (f, a) (request-stops mem (requested (begin r)) begun ∙ after _ (fine-handleChannelRequest mem _ (λ k a z kind address. tt) (any-fine (begin r) h) .count)))
-      (λ f a b. rw (f, a, b) (timer-stops mem 0 begun ∙ after _ (fine-handleTimerRequest mem 0 (λ k a z kind address. tt) (any-fine (begin r) h) .count)))
-      (λ f a b. rw (f, a, b) (timer-stops mem 1 begun ∙ after _ (fine-handleTimerRequest mem 1 (λ k a z kind address. tt) (any-fine (begin r) h) .count)))
+      (λ f a. rw (f, a) (request-stops mem (requested (begin r)) begun ∙ after _ (kept (lawful-handleChannelRequest (λ k a z kind address. tt) _) mem (any-fine (begin r) h) .count)))
+      (λ f a b. rw (f, a, b) (timer-stops mem 0 begun ∙ after _ (kept (lawful-handleTimerRequest (λ k a z kind address. tt) 0) mem (any-fine (begin r) h) .count)))
+      (λ f a b. rw (f, a, b) (timer-stops mem 1 begun ∙ after _ (kept (lawful-handleTimerRequest (λ k a z kind address. tt) 1) mem (any-fine (begin r) h) .count)))
       (λ f. yes f _ _ ∙ told-instruction 11 (λ q. omega (arith, q)) (λ q. omega (arith, q)) _ (sym (place-fetched (nextCode r mem) (nextByte r mem) mem (begin r)) ∙ operate-stops (nextCode r mem) mem fetch-begun) f)
     where
       after : (w : Work) → length (w .regs) ≡ registers → eqb (w .answer) stop ≡ eqb (actOnSNP mem w .answer) stop
-      after w k = same-stop w (actOnSNP mem w) k (λ P t f. fine-actOnSNP mem f)
+      after w k = same-stop w (actOnSNP mem w) k (λ P t f. kept lawful-actOnSNP mem f)
 
   -- its answer, in the table's order
   pub own-first : isIdle r ≡ false

@@ -21,13 +21,12 @@ use Rattle.rules.specs.declared.Machine.{Machine}
 use Rattle.rules.proofs.Tests.{yes}
 use Rattle.laws.specs.Ring.{isOutside, insertRings}
 use Rattle.laws.specs.Stops.{going, insertStarted, insertStops, deleteStarted, deleteStops, InsertsInRing, DeletesInRing, TinRing, DistRing, tinStops, distStops, stateLoaded, linkLoaded, timeLoaded, markStops, taltwtStops, stopPlaces, nowhere}
-use Rattle.laws.proofs.Fine.{fine-wIndexWord, fine-rIndexWord}
-use Rattle.laws.proofs.FineTimers.{fine-nextTime}
+use Rattle.laws.proofs.Lawful.{kept, lawful-rIndexWord, lawful-wIndexWord}
+use Rattle.laws.proofs.LawfulTimers.{lawful-nextTime}
 use Rattle.laws.proofs.Calm.{never, and-false, any-fine}
-use Rattle.laws.proofs.InsertRing.{insert-rings}
-use Rattle.laws.proofs.DeleteRing.{delete-rings}
+use Rattle.laws.proofs.TimerRings.{insert-rings, delete-rings}
 use Rattle.laws.proofs.Steps.{queue-inside, started-count, off-count, off-answer}
-use Rattle.refusals.specs.Conditions.{firstOf, frame, isHalted, isIdle, isUnlisted, fetches, operates, nextCode, operationStops, stepOutside, stops, full, stepPairs}
+use Rattle.refusals.specs.Conditions.{firstOf, badJournal, isHalted, isIdle, isUnlisted, fetches, operates, nextCode, operationStops, stepOutside, stops, full, stepPairs}
 use Rattle.refusals.proofs.Own.{own-nine, own-eleven}
 use Rattle.refusals.proofs.Exactly.{step-exactly}
 
@@ -89,7 +88,7 @@ module _ (mem : List ℕ) (large : 64 ≤ length mem) (w : Work) (h : length (w 
 module _ (mem : List ℕ) (large : 64 ≤ length mem) (w : Work) (h : length (w .regs) ≡ registers) where
   tin-iff : (tinStops mem w ≡ true) ↔ TinRing mem w
   unfolding tinStops
-  tin-iff = then-both _ _ (not-iff (later (reg (clockReg (priority w)) w) (reg areg w))) (insert-iff mem large (nextTime w) (fine-nextTime (any-fine w h) .count))
+  tin-iff = then-both _ _ (not-iff (later (reg (clockReg (priority w)) w) (reg areg w))) (insert-iff mem large (nextTime w) (kept lawful-nextTime mem (any-fine w h) .count))
 
   dist-iff : w .answer ≡ 0 → (distStops mem w ≡ true) ↔ DistRing mem w
   unfolding distStops
@@ -110,8 +109,8 @@ module _ (r mem : List ℕ) (h : length r ≡ registers) (busy : isIdle r ≡ fa
       let e : steps.choose mem (begin r) .answer ≡ 11 = eqb-true (steps.choose mem (begin r) .answer) 11 (sym (own-eleven r mem h busy) ∙ s) in
       (own-nine r mem h busy ∙ ne-eqb (steps.choose mem (begin r) .answer) 9 (λ q. omega (arith, e, q)), ne-eqb (steps.choose mem (begin r) .answer) 10 (λ q. omega (arith, e, q)))
 
-above : (n k : ℕ) → (ltb n k ≡ true) ↔ (n < k)
-above n k = ((λ e. ltb-true n k e), λ e. lt-ltb n k e)
+ltb-iff : (n k : ℕ) → (ltb n k ≡ true) ↔ (n < k)
+ltb-iff n k = ((λ e. ltb-true n k e), λ e. lt-ltb n k e)
 
 eleven : (u o s f : Bool) → _≡_ {A = ℕ} (pick u 9 (pick o 10 (pick s 11 (pick f 12 0)))) 11 → s ≡ true
 eleven true o s f e = absurd (omega (arith, e))
@@ -120,7 +119,7 @@ eleven false false true f e = refl
 eleven false false false true e = absurd (omega (arith, e))
 eleven false false false false e = absurd (omega (arith, e))
 
-module _ (m : Machine) (mem j : List ℕ) (h : length (m .regs) ≡ registers) (sized : rules.sizeBad mem j ≡ false) (framed : frame m j ≡ false)
+module _ (m : Machine) (mem j : List ℕ) (h : length (m .regs) ≡ registers) (sized : rules.sizeBad mem j ≡ false) (framed : badJournal m j ≡ false)
     (runs : isHalted (m .regs) ≡ false) (busy : isIdle (m .regs) ≡ false) where
   abbrev r : List ℕ
   r = m .regs
@@ -161,12 +160,12 @@ module _ (m : Machine) (mem j : List ℕ) (h : length (m .regs) ≡ registers) (
     pub shift-call : (nextCode r mem ≡ 0x41) ⊎ (nextCode r mem ≡ 0x40) → (rules.step m mem j .answer ≡ 11) ↔ (32 < getD r areg 0)
     shift-call c =
         iff-trans step-stops
-        (iff-same _ _ (⊎-elim (at-place 0x41) (at-place 0x40) c) (above 32 (getD r areg 0)))
+        (iff-same _ _ (⊎-elim (at-place 0x41) (at-place 0x40) c) (ltb-iff 32 (getD r areg 0)))
 
     pub long-shift-call : (nextCode r mem ≡ 0x36) ⊎ (nextCode r mem ≡ 0x35) → (rules.step m mem j .answer ≡ 11) ↔ (64 < getD r areg 0)
     long-shift-call c =
         iff-trans step-stops
-        (iff-same _ _ (⊎-elim (at-place 0x36) (at-place 0x35) c) (above 64 (getD r areg 0)))
+        (iff-same _ _ (⊎-elim (at-place 0x36) (at-place 0x35) c) (ltb-iff 64 (getD r areg 0)))
 
     -- THE RINGS, of a call
     pub tin-ring : nextCode r mem ≡ 0x2B → (rules.step m mem j .answer ≡ 11) ↔ TinRing mem start
@@ -181,4 +180,4 @@ module _ (m : Machine) (mem j : List ℕ) (h : length (m .regs) ≡ registers) (
     taltwt-ring c n t = iff-trans step-stops (iff-same _ _ (at-place 0x51 c ∙ marked mem start n t) (tin-iff mem large (timeLoaded mem (linkLoaded mem (stateLoaded mem start))) loaded))
       where
         loaded : length (timeLoaded mem (linkLoaded mem (stateLoaded mem start)) .regs) ≡ registers
-        loaded = fine-rIndexWord mem _ _ _ (fine-rIndexWord mem _ _ _ (fine-rIndexWord mem _ _ _ (fine-wIndexWord mem _ _ _ (any-fine start h)))) .count
+        loaded = kept (lawful-rIndexWord _ _ _) mem (kept (lawful-rIndexWord _ _ _) mem (kept (lawful-rIndexWord _ _ _) mem (kept (lawful-wIndexWord _ _ _) mem (any-fine start h)))) .count

@@ -1,4 +1,5 @@
--- How many words tick, take, give and event store to: none; give one, where its byte is stored. So how many pairs their records have.
+-- How many words tick, take, give and event store to: none; give one, where its byte is stored. This gives the number of pairs of
+-- their records.
 use mathlib.Core.Path.{_≡_, refl, _∙_}
 use mathlib.Core.Bool.{true}
 use mathlib.Core.List.{List, [], _∷_}

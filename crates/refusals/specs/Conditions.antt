@@ -24,8 +24,8 @@ firstOf [] = 0
 firstOf (e ∷ es) = pick (e .1) (e .0) (firstOf es)
 
 -- 4 JournalBad, in every call but fresh and clear: used above the journal's length, or 46 x depth above used (01, Answers by number)
-abbrev pub frame : Machine → List ℕ → Bool
-frame m j = boundsBad (length j) (m .depth) (m .used)
+abbrev pub badJournal : Machine → List ℕ → Bool
+badJournal m j = boundsBad (length j) (m .depth) (m .used)
 
 -- the last record is longer than used (01, Answers by number, 4)
 abbrev pub lastTooLong : Machine → List ℕ → Bool
@@ -38,7 +38,7 @@ pairOutside m mem j = strays (length mem) (pairsAt j (lastStart j (m .used)) (la
 -- 4 JournalBad, of undo: as in every call; or depth is above 0, and the last record is longer than used or a pair's index is N or more
 -- (01, Answers by number; DECISIONS 35)
 abbrev pub undoBad : Machine → List ℕ → List ℕ → Bool
-undoBad m mem j = frame m j || (ltb 0 (m .depth) && (lastTooLong m j || pairOutside m mem j))
+undoBad m mem j = badJournal m j || (ltb 0 (m .depth) && (lastTooLong m j || pairOutside m mem j))
 
 -- 5 NothingToUndo: depth 0 (01, Answers by number)
 abbrev pub nothingToUndo : Machine → Bool
@@ -157,13 +157,13 @@ module _ (m : Machine) (mem j : List ℕ) where
 
   -- tick: 1, 4, 12 (01, Answers by number; DECISIONS 37)
   abbrev pub tickNumbers : List (ℕ × Bool)
-  tickNumbers = (1, sizeBad mem j) ∷ (4, frame m j) ∷ (12, full 0 m j) ∷ []
+  tickNumbers = (1, sizeBad mem j) ∷ (4, badJournal m j) ∷ (12, full 0 m j) ∷ []
 
   -- event: 1, 4, 8, 12 (01, Answers by number; DECISIONS 37)
   abbrev pub eventNumbers : List (ℕ × Bool)
   eventNumbers =
       (1, sizeBad mem j)
-      ∷ (4, frame m j)
+      ∷ (4, badJournal m j)
       ∷ (8, giveNotReady eventChannel (m .regs))
       ∷ (12, full 0 m j)
       ∷ []
@@ -176,7 +176,7 @@ module _ (m : Machine) (mem j : List ℕ) where
   abbrev pub stepNumbers : List (ℕ × Bool)
   stepNumbers =
       (1, sizeBad mem j)
-      ∷ (4, frame m j)
+      ∷ (4, badJournal m j)
       ∷ (6, isHalted (m .regs))
       ∷ (7, isIdle (m .regs))
       ∷ (9, isUnlisted (m .regs) mem)
@@ -190,18 +190,18 @@ abbrev pub takeNumbers : ℕ → Machine → List ℕ → List ℕ → List (ℕ
 takeNumbers c m mem j =
     (1, sizeBad mem j)
     ∷ (3, notOutput c)
-    ∷ (4, frame m j)
+    ∷ (4, badJournal m j)
     ∷ (8, takeNotReady c (m .regs))
     ∷ (10, pointerOutside c (m .regs) mem)
     ∷ (12, full 0 m j)
     ∷ []
 
 -- give: 1, 3, 4, 8, 10, 12 (01, Answers by number; DECISIONS 32)
-abbrev pub giveNumbers : ℕ → ℕ → Machine → List ℕ → List ℕ → List (ℕ × Bool)
-giveNumbers c byte m mem j =
+abbrev pub giveNumbers : ℕ → Machine → List ℕ → List ℕ → List (ℕ × Bool)
+giveNumbers c m mem j =
     (1, sizeBad mem j)
     ∷ (3, notInput c)
-    ∷ (4, frame m j)
+    ∷ (4, badJournal m j)
     ∷ (8, giveNotReady c (m .regs))
     ∷ (10, pointerOutside c (m .regs) mem)
     ∷ (12, full (givePairs c (m .regs)) m j)

@@ -183,6 +183,12 @@ pub const EREG_INT_SAVE: u32 = 6;
 
 // ---- refusals in a plan (01, Answers by number), and the kinds of accesses
 
+pub const SIZE: u32 = 1;
+
+pub const CODE_SIZE: u32 = 2;
+
+pub const NOTHING_TO_UNDO: u32 = 5;
+
 pub const HALTED: u32 = 6;
 
 pub const IDLE: u32 = 7;

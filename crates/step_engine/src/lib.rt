@@ -109,7 +109,7 @@ fn choose(w: Plan, mem: &[u32]) -> Plan
     requires { ⌜ Room 12 w × (w .count ≡ 0) ⌝ }
     ensures { λ r. ⌜ (view r ≡ step.choose (now (mem .entry)) (view w)) × Ended 12 w r ⌝ }
 {
-    if step_pending::service::between(w) {
+    if step_pending::service::between_instructions(w) {
         return channels_first(w, mem);
     }
     instruction_unless_idle(w, mem)
@@ -129,7 +129,7 @@ pub fn step(regs: [u32; REGISTERS], mem: &[u32]) -> Plan
 }
 
 // Makes the step of a call after its checks: plans it, then commits or refuses.
-pub fn planned(m: Machine, mem: &mut [u32], journal: &mut [u32]) -> Reply
+pub fn plan_and_commit(m: Machine, mem: &mut [u32], journal: &mut [u32]) -> Reply
     requires { ⌜ (length (now mem) ≤ 16384) × (length (now journal) ≤ 65536) × (boundsBad (length (now journal)) (m .depth) (m .used) ≡ false) ⌝ }
     ensures { λ r. ⌜ outcomeOf r (now (mem .exit)) (now (journal .exit)) ≡ commitOrRefuse m (now (mem .entry)) (now (journal .entry)) 0 (step.step (now (mem .entry)) (begin (m .regs))) ⌝ }
 {

@@ -4,6 +4,7 @@ pub mod functions; // the sixteen functions, after the fetch
 
 use rules::Core;
 use rules::REGISTERS;
+use rules::names::*;
 ghost use mathlib.Core.Path.{_≡_};
 ghost use Prim.Native.Nat.{_<_};
 ghost use Rattle.rules.specs.Registers as registers;
@@ -23,13 +24,13 @@ fn core_of(regs: [u32; REGISTERS]) -> Core
     ensures { λ r. ⌜ r ≡ registers.coreOf regs ⌝ }
 {
     Core {
-        iptr: regs[0],
-        wdesc: regs[1],
-        a: regs[2],
-        b: regs[3],
-        c: regs[4],
-        oreg: regs[5],
-        status: regs[6],
+        iptr: regs[IPTR_REG],
+        wdesc: regs[WDESC_REG],
+        a: regs[AREG],
+        b: regs[BREG],
+        c: regs[CREG],
+        oreg: regs[OREG],
+        status: regs[STATUS_REG],
     }
 }
 

@@ -27,7 +27,8 @@ due queue r =
 unfoldable pub nothingToServe : List ℕ → Bool
 nothingToServe r = pick (noRequest 0 linkChans r) (pick (due 0 r) false (not (due 1 r))) false
 
--- not halted, not idle, GotoSNP clear, and where Oreg is 0 nothing to serve: (c) applies (01, One step; DECISIONS 54)
+-- not halted, not idle, and where Oreg is 0 nothing to serve: (c) applies; and GotoSNP is clear, so the step acts on no bit of an earlier step
+-- (01, One step; DECISIONS 17, 54)
 unfoldable pub nothingPending : List ℕ → Bool
 nothingPending r =
     ifSet haltedFlag (getD r flagsReg 0) false

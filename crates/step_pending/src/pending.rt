@@ -36,7 +36,7 @@ fn due(regs: [u32; REGISTERS], queue: usize, mask: u32) -> bool
     !words::later(regs[TNEXT_REG + queue], regs[CLOCK_REG + queue])
 }
 
-// Tests that no channel has a request and neither timer is due: (a) and (b) do not apply (01, One step).
+// Tests that no channel has a request and neither timer is due, timer 1 at any priority: (a) and (b) do not apply (01, One step).
 fn nothing_to_serve(regs: [u32; REGISTERS]) -> bool
     ensures { λ r. ⌜ r ≡ pending.nothingToServe regs ⌝ }
 {
@@ -49,7 +49,8 @@ fn nothing_to_serve(regs: [u32; REGISTERS]) -> bool
     false
 }
 
-// Tests that (c) applies (01, One step): not halted, not idle, GotoSNPBit clear; and where Oreg is 0, nothing to serve.
+// Tests that the step is an instruction alone (01, One step (c)): not halted, not idle; where Oreg is 0, nothing to serve; and GotoSNPBit is
+// clear, so that the step acts on no bit of an earlier step (DECISIONS 17).
 pub fn nothing_pending(regs: [u32; REGISTERS]) -> bool
     ensures { λ r. ⌜ r ≡ pending.nothingPending regs ⌝ }
 {

@@ -13,7 +13,7 @@ ghost use Rattle.plan.specs.View.{view};
 ghost use Rattle.step_pending.specs.Timer.{firstReady};
 
 // Tests that Oreg is 0: only then does a step serve requests (01, One step).
-pub fn between(w: Plan) -> bool
+pub fn between_instructions(w: Plan) -> bool
     ensures { λ r. ⌜ r ≡ eqb (reg registers.oreg (view w)) 0 ⌝ }
 {
     w.regs[OREG] == 0

@@ -4,6 +4,7 @@
 use rules::Answer;
 use rules::Machine;
 use rules::Reply;
+use rules::names::*;
 ghost use Rattle.history.specs.Contracts.{FreshContract, StepContract, TickContract, TakeContract, GiveContract, EventContract, UndoContract, ClearContract};
 
 // Makes a machine with the code loaded: fills memory, does not write the journal.
@@ -11,10 +12,10 @@ pub fn fresh(mem: &mut [u32], journal: &mut [u32], code: &[u8]) -> Reply
     ensures { λ r. ⌜ FreshContract (now (code .entry)) (now (mem .entry)) (now (journal .entry)) r (now (mem .exit)) (now (journal .exit)) ⌝ }
 {
     if journal::checks::size_bad(mem.len(), journal.len()) {
-        return journal::checks::refuse(loading::no_machine(), 1);
+        return journal::checks::refuse(loading::no_machine(), SIZE);
     }
     if loading::code_bad(mem.len(), code.len()) {
-        return journal::checks::refuse(loading::no_machine(), 2);
+        return journal::checks::refuse(loading::no_machine(), CODE_SIZE);
     }
     loading::fill(mem, code);
     let machine = loading::fresh_machine(code.len());
@@ -41,9 +42,9 @@ pub fn step(m: Machine, mem: &mut [u32], journal: &mut [u32]) -> Reply
         if common {
             return journal_small::commit_common(m, t, mem, journal);
         }
-        return step_engine::planned(m, mem, journal);
+        return step_engine::plan_and_commit(m, mem, journal);
     }
-    step_engine::planned(m, mem, journal)
+    step_engine::plan_and_commit(m, mem, journal)
 }
 
 // Advances the clocks by one tick.
@@ -122,9 +123,9 @@ pub fn undo(m: Machine, mem: &mut [u32], journal: &mut [u32]) -> Reply
         return journal::checks::refuse(m, number);
     }
     if m.depth == 0 {
-        return journal::checks::refuse(m, 5);
+        return journal::checks::refuse(m, NOTHING_TO_UNDO);
     }
-    journal::commit::undo_last(m, mem, journal)
+    journal::undo::undo_last(m, mem, journal)
 }
 
 // Empties the journal; changes nothing else.
@@ -132,7 +133,7 @@ pub fn clear(m: Machine, mem: &mut [u32], journal: &mut [u32]) -> Reply
     ensures { λ r. ⌜ ClearContract m (now (mem .entry)) (now (journal .entry)) r (now (mem .exit)) (now (journal .exit)) ⌝ }
 {
     if journal::checks::size_bad(mem.len(), journal.len()) {
-        return journal::checks::refuse(m, 1);
+        return journal::checks::refuse(m, SIZE);
     }
     let regs = m.regs;
     let machine = Machine {

@@ -11,14 +11,14 @@ use Rattle.rules.specs.Journal.{recordLength, olds}
 use Rattle.rules.specs.declared.Answer.the-variants.{JournalFull}
 use Rattle.step_fast.specs.declared.FastStep.{FastStep}
 use Rattle.journal_small.specs.Count.{Counted, storesOf}
-use Rattle.journal_record.proofs.Frame.{frame-good}
+use Rattle.journal_record.proofs.JournalBounds.{bounds-good}
 use Rattle.journal_record.proofs.Outcomes.{refusal-is, number-full, commit-full, commit-done}
-use Rattle.journal_small.proofs.Brief.{comes, record-written, listed-length}
+use Rattle.journal_small.proofs.CommonStep.{common-outcome, record-written, listed-length}
 use Rattle.journal_small.proofs.commit_common.Statement.{statement}
 use Rattle.journal_small.proofs.commit_common.Tie as tie
 
 good : (c : tie.Start) → (c .args .m .used ≤ length (c .args .journal .now)) × (recordLength 0 * c .args .m .depth ≤ c .args .m .used) × (length (c .args .journal .now) ≤ 65536)
-good c = let f = frame-good _ _ _ (c .pre .1) in (f .0, f .1, c .pre .0)
+good c = let f = bounds-good _ _ _ (c .pre .1) in (f .0, f .1, c .pre .0)
 
 length-of : (t : FastStep) (n size : ℕ) → Counted size t n → length (touched size (storesOf t)) ≡ n
 length-of t n size e = rw (← e .touches) (listed-length n (t .index) (e .few))
@@ -40,7 +40,7 @@ returns c =
     rw l (ltb-true _ _ (sym (f .is-full .ensures) ∙ i .if1 .taken)) in
     refusal-is (c .refusal .result) (a .m) (a .mem .now) (a .journal .now) JournalFull (c .refusal .ensures)
     ∙ rw number-full (commit-full (a .m) (a .mem .now) (a .journal .now) 0 (withCore (a .t .core) (a .m .regs)) (touched (length (a .mem .now)) (storesOf (a .t))) (stores (a .mem .now) (storesOf (a .t))) u)
-    ∙ comes (a .m) (a .mem .now) (a .journal .now) (a .t)
+    ∙ common-outcome (a .m) (a .mem .now) (a .journal .now) (a .t)
 
 add-at : tie.Need-add-at
 add-at c =
@@ -92,7 +92,7 @@ returns-2 c =
     (ltb-false _ _ (sym (i .before .is-full .ensures) ∙ i .if1 .left))
     (g .store-recorded .ensures .1 ∙ e .makes (a .mem .now) refl)
     (p .put-tail .ensures ∙ rw j (record-written (a .journal .now) (a .mem .now) (a .m .regs) ks (a .m .used) n l))
-    ∙ comes (a .m) (a .mem .now) (a .journal .now) (a .t))
+    ∙ common-outcome (a .m) (a .mem .now) (a .journal .now) (a .t))
 
 pub commit-common-spec : {M : Type 1} → statement M
 commit-common-spec =

@@ -1,5 +1,5 @@
 use borrow.Author.Needs.{needs}
-use Rattle.journal_small.proofs.Brief.{counted-one, counted-past, counted-none}
+use Rattle.journal_small.proofs.CommonStep.{counted-one, counted-past, counted-none}
 use Rattle.journal_small.proofs.count.Statement.{statement}
 use Rattle.journal_small.proofs.count.Tie as tie
 

@@ -2,7 +2,7 @@ use borrow.Author.Needs.{needs}
 use mathlib.Core.Path.{_≡_}
 use lib.ListN.{length, length-set}
 use Rattle.rules.specs.Registers.{registers}
-use Rattle.journal_small.proofs.Brief.{tail-written}
+use Rattle.journal_small.proofs.CommonStep.{tail-written}
 use Rattle.journal_small.proofs.put_tail.Statement.{statement}
 use Rattle.journal_small.proofs.put_tail.Tie as tie
 

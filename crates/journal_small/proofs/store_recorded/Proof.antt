@@ -1,7 +1,7 @@
 use borrow.Author.Needs.{needs}
 use native.Mathlib.Omega.{arith}
 use mathlib.Core.Path.{_≡_, _∙_}
-use Rattle.journal_small.proofs.Brief.{pair-none, pair-one, made-none, made-one}
+use Rattle.journal_small.proofs.CommonStep.{pair-none, pair-one, made-none, made-one}
 use Rattle.journal_small.proofs.store_recorded.Statement.{statement}
 use Rattle.journal_small.proofs.store_recorded.Tie as tie
 

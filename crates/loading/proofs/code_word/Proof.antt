@@ -11,5 +11,9 @@ code-word-spec =
     (λ c. search needs) (λ c κs. search needs) (λ c. search needs) (λ c κs. search needs) (λ c. search needs) (λ c κs. search needs)
     (λ c. search needs) (λ c κs. search needs) (λ c. search needs) (λ c. search needs) (λ c. search needs) (λ c. search needs)
     (λ c. search needs) (λ c. search needs)
-    (λ c. rw (c .code-byte4 .ensures .0, c .before .code-byte3 .ensures .0, c .before .before .code-byte2 .ensures .0,
-      c .before .before .before .code-byte .ensures .0)))
+    (λ c. rw (
+      c .code-byte4 .ensures .0,
+      c .before .code-byte3 .ensures .0,
+      c .before .before .code-byte2 .ensures .0,
+      c .before .before .before .code-byte .ensures .0,
+    )))

@@ -9,7 +9,13 @@ unfolding steps.channelsFirst
 channels-first-spec =
     tie.close (tie.spec
     (λ c κs. search needs) (λ c κs. search needs) (λ c κs. search needs)
-    (λ c. (rw (← c .before .before .before .requested .ensures, yes-lt (c .before .before .if1 .taken),
-      ← c .before .handle-channel-request .ensures .0) (c .act-on-snp .ensures .0), search needs))
+    (λ c. (
+      rw (
+        ← c .before .before .before .requested .ensures,
+        yes-lt (c .before .before .if1 .taken),
+        ← c .before .handle-channel-request .ensures .0,
+      ) (c .act-on-snp .ensures .0),
+      search needs,
+    ))
     (λ c κs. search needs)
     (λ c. (rw (← c .before .before .requested .ensures, no-lt (c .before .if1 .left)) (c .timers-first .ensures .0), search needs)))

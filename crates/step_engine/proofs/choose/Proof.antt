@@ -9,6 +9,6 @@ unfolding steps.choose ifEq
 choose-spec =
     tie.close (tie.spec
     (λ c κs. search needs) (λ c κs. search needs)
-    (λ c. (rw (← c .before .before .between .ensures, c .before .if1 .taken) (c .channels-first .ensures .0), search needs))
+    (λ c. (rw (← c .before .before .between-instructions .ensures, c .before .if1 .taken) (c .channels-first .ensures .0), search needs))
     (λ c κs. search needs)
-    (λ c. (rw (← c .before .before .between .ensures, c .before .if1 .left) (c .instruction-unless-idle .ensures .0), search needs)))
+    (λ c. (rw (← c .before .before .between-instructions .ensures, c .before .if1 .left) (c .instruction-unless-idle .ensures .0), search needs)))

@@ -8,5 +8,11 @@ unfolding steps.fetched
 fetched-spec =
     tie.close (tie.spec
     (λ c. search needs) (λ c κs. search needs) (λ c. search needs) (λ c κs. search needs) (λ c κs. search needs) (λ c κs. search needs)
-    (λ c. (rw (← c .before .before .before .before .with-nibble .ensures, ← c .before .before .at-byte .ensures,
-      ← c .before .put .ensures .0) (c .put2 .ensures .0), search needs)))
+    (λ c. (
+      rw (
+        ← c .before .before .before .before .with-nibble .ensures,
+        ← c .before .before .at-byte .ensures,
+        ← c .before .put .ensures .0,
+      ) (c .put2 .ensures .0),
+      search needs,
+    )))

@@ -8,5 +8,11 @@ unfolding steps.instruction
 instruction-spec =
     tie.close (tie.spec
     (λ c. search needs) (λ c κs. search needs) (λ c κs. search needs) (λ c κs. search needs) (λ c κs. search needs)
-    (λ c. (rw (← c .before .before .before .byte-at .ensures .0, ← c .before .before .fetch-byte .ensures .0,
-      ← c .before .fetched .ensures .0) (c .decode .ensures .0), search needs)))
+    (λ c. (
+      rw (
+        ← c .before .before .before .byte-at .ensures .0,
+        ← c .before .before .fetch-byte .ensures .0,
+        ← c .before .fetched .ensures .0,
+      ) (c .decode .ensures .0),
+      search needs,
+    )))

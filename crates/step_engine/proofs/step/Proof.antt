@@ -9,7 +9,11 @@ unfolding steps.step
 step-spec =
     tie.close (tie.spec
     (λ c. search needs) (λ c κs. search needs) (λ c κs. search needs) (λ c. search needs) (λ c κs. search needs)
-    (λ c. (rw (yes-eq (c .before .before .before .if1 .taken), ← c .before .before .begin .ensures .0, ← c .before .choose .ensures .0)
-      (c .halt-on-error .ensures .0), search needs, search needs))
+    (λ c. (
+      rw (yes-eq (c .before .before .before .if1 .taken), ← c .before .before .begin .ensures .0, ← c .before .choose .ensures .0)
+          (c .halt-on-error .ensures .0),
+      search needs,
+      search needs,
+    ))
     (λ c κs. search needs) (λ c κs. search needs)
     (λ c. (rw (no-eq (c .before .before .if1 .left), ← c .before .begin2 .ensures .0) (c .refuse .ensures .0), search needs, search needs)))

@@ -1,7 +1,7 @@
 use mathlib.Core.Path.{sym, _∙_}
 use Prim.Native.Nat.{_-_}
 use Rattle.rules.specs.Calls.{numberOf}
-use Rattle.journal.proofs.Settled.{clear-refused, clear-done}
+use Rattle.journal.proofs.CommitOrRefuse.{clear-refused, clear-done}
 use borrow.Author.Needs.{needs}
 use Rattle.t414.proofs.clear.Statement.{statement}
 use Rattle.t414.proofs.clear.Tie as tie

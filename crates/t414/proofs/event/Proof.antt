@@ -6,7 +6,7 @@ use mathlib.Core.Bool.{false}
 use Rattle.rules.specs.Registers.{registers}
 use Rattle.rules.specs.Calls.{event}
 use Rattle.journal.proofs.Refusing.{number-known, stopped, passed}
-use Rattle.journal.proofs.Settled.{ready, event-known}
+use Rattle.journal.proofs.CommitOrRefuse.{ready, event-known}
 use borrow.Author.Needs.{needs}
 use Rattle.t414.proofs.event.Statement.{statement}
 use Rattle.t414.proofs.event.Tie as tie

@@ -4,7 +4,7 @@ use lib.ListN.{length}
 use mathlib.Core.Bool.{false}
 use Rattle.rules.specs.Registers.{registers}
 use Rattle.rules.specs.Calls.{step}
-use Rattle.journal.proofs.Refusing.{number-known, stopped, passed, fits, frame-good}
+use Rattle.journal.proofs.Refusing.{number-known, stopped, passed, fits, bounds-good}
 use Rattle.t414.proofs.Commons.{common-step-is}
 use borrow.Author.Needs.{needs}
 use Rattle.t414.proofs.step.Statement.{statement}
@@ -33,7 +33,7 @@ commit-common-requires c κs =
     let f = i .before in
     let a = f .before .before .before .args in
     let h = sym (f .first-bad .ensures) ∙ i .if1 .left in
-    (fits false (a .m) (a .mem .now) (a .journal .now) h .1, frame-good false (a .m) (a .mem .now) (a .journal .now) h)
+    (fits false (a .m) (a .mem .now) (a .journal .now) h .1, bounds-good false (a .m) (a .mem .now) (a .journal .now) h)
 
 returns-2 : tie.Need-returns-2
 unfolding step
@@ -51,14 +51,14 @@ returns-2 c =
     ∙ common-step-is (a .m) (a .mem .now) (a .journal .now) (s .common-step .result) (long S) Q (s .common-step .ensures) (k .if3 .taken)
     ∙ passed false (a .m) (a .mem .now) (a .journal .now) (sym (f .first-bad .ensures) ∙ i .if1 .left) _
 
-planned-requires : tie.Need-planned-requires
-planned-requires c κs =
+plan-and-commit-requires : tie.Need-plan-and-commit-requires
+plan-and-commit-requires c κs =
     let i = c .before .before .before .before .before .before .before .before in
     let f = i .before in
     let a = f .before .before .before .args in
     let h = sym (f .first-bad .ensures) ∙ i .if1 .left in
     let l = fits false (a .m) (a .mem .now) (a .journal .now) h in
-    (l .0, l .1, frame-good false (a .m) (a .mem .now) (a .journal .now) h)
+    (l .0, l .1, bounds-good false (a .m) (a .mem .now) (a .journal .now) h)
 
 returns-3 : tie.Need-returns-3
 unfolding step
@@ -66,17 +66,17 @@ returns-3 c =
     let i = c .before .before .before .before .before .before .before .before .before .before .before .before .before in
     let f = i .before in
     let a = f .before .before .before .args in
-    c .before .before .before .before .planned .ensures
+    c .before .before .before .before .plan-and-commit .ensures
     ∙ passed false (a .m) (a .mem .now) (a .journal .now) (sym (f .first-bad .ensures) ∙ i .if1 .left) _
 
-planned-requires-2 : tie.Need-planned-requires-2
-planned-requires-2 c κs =
+plan-and-commit-requires-2 : tie.Need-plan-and-commit-requires-2
+plan-and-commit-requires-2 c κs =
     let i = c .before .before .before .before .before in
     let f = i .before in
     let a = f .before .before .before .args in
     let h = sym (f .first-bad .ensures) ∙ i .if1 .left in
     let l = fits false (a .m) (a .mem .now) (a .journal .now) h in
-    (l .0, l .1, frame-good false (a .m) (a .mem .now) (a .journal .now) h)
+    (l .0, l .1, bounds-good false (a .m) (a .mem .now) (a .journal .now) h)
 
 returns-4 : tie.Need-returns-4
 unfolding step
@@ -84,7 +84,7 @@ returns-4 c =
     let i = c .before .before .before .before .before .before .before .before .before .before in
     let f = i .before in
     let a = f .before .before .before .args in
-    c .before .before .before .before .planned2 .ensures
+    c .before .before .before .before .plan-and-commit2 .ensures
     ∙ passed false (a .m) (a .mem .now) (a .journal .now) (sym (f .first-bad .ensures) ∙ i .if1 .left) _
 
 pub step-spec : {M : Type 1} → statement M
@@ -100,11 +100,11 @@ step-spec =
     (λ c. search needs)
     (λ c. search needs)
     returns-2
-    planned-requires
+    plan-and-commit-requires
     (λ c. search needs)
     (λ c. search needs)
     returns-3
-    planned-requires-2
+    plan-and-commit-requires-2
     (λ c. search needs)
     (λ c. search needs)
     returns-4)

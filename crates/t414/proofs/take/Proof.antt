@@ -5,7 +5,7 @@ use lib.ListN.{length}
 use Rattle.rules.specs.Registers.{registers}
 use Rattle.rules.specs.Calls.{take, notOutput}
 use Rattle.journal.proofs.Refusing.{number-known, stopped, passed, channel-good, output-good}
-use Rattle.journal.proofs.Settled.{ready, take-known}
+use Rattle.journal.proofs.CommitOrRefuse.{ready, take-known}
 use borrow.Author.Needs.{needs}
 use Rattle.t414.proofs.take.Statement.{statement}
 use Rattle.t414.proofs.take.Tie as tie

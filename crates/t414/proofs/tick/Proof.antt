@@ -2,7 +2,7 @@ use native.Mathlib.Omega.{arith}
 use mathlib.Core.Path.{sym, _∙_}
 use mathlib.Core.Bool.{false}
 use Rattle.rules.specs.Calls.{tick}
-use Rattle.journal.proofs.Refusing.{number-known, stopped, passed, fits, frame-good}
+use Rattle.journal.proofs.Refusing.{number-known, stopped, passed, fits, bounds-good}
 use borrow.Author.Needs.{needs}
 use Rattle.t414.proofs.tick.Statement.{statement}
 use Rattle.t414.proofs.tick.Tie as tie
@@ -27,7 +27,7 @@ commit-regs-requires c κs =
     let f = i .before in
     let a = f .before .before .before .args in
     let h = sym (f .first-bad .ensures) ∙ i .if1 .left in
-    (fits false (a .m) (a .mem .now) (a .journal .now) h .1, frame-good false (a .m) (a .mem .now) (a .journal .now) h)
+    (fits false (a .m) (a .mem .now) (a .journal .now) h .1, bounds-good false (a .m) (a .mem .now) (a .journal .now) h)
 
 returns-2 : tie.Need-returns-2
 unfolding tick

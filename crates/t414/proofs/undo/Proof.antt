@@ -3,8 +3,8 @@ use mathlib.Core.Path.{_≡_, sym, _∙_}
 use Prim.Native.Nat.{_-_}
 use mathlib.Core.Bool.{false}
 use Rattle.rules.specs.Calls.{undo}
-use Rattle.journal.proofs.Refusing.{number-known, stopped, frame-good}
-use Rattle.journal.proofs.Settled.{undo-none, undo-some}
+use Rattle.journal.proofs.Refusing.{number-known, stopped, bounds-good}
+use Rattle.journal.proofs.CommitOrRefuse.{undo-none, undo-some}
 use borrow.Author.Needs.{needs}
 use Rattle.t414.proofs.undo.Statement.{statement}
 use Rattle.t414.proofs.undo.Tie as tie
@@ -38,7 +38,7 @@ undo-last-requires c κs =
     let f = i .before in
     let a = f .before .before .before .args in
     let z : a .m .depth ≡ 0 → ⊥ = d .if2 .left in
-    (frame-good false (a .m) (a .mem .now) (a .journal .now) (sym (f .first-bad .ensures) ∙ i .if1 .left), omega (arith, z))
+    (bounds-good false (a .m) (a .mem .now) (a .journal .now) (sym (f .first-bad .ensures) ∙ i .if1 .left), omega (arith, z))
 
 returns-3 : tie.Need-returns-3
 returns-3 c =

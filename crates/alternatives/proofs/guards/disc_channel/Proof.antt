@@ -11,5 +11,11 @@ disc-channel-spec =
     (λ c. search needs) (λ c κs. search needs) (λ c. search needs) (λ c κs. search needs)
     (λ c. (rw (← c .before .before .index-of .ensures, yes-lt (c .before .if1 .taken)) (c .disc-hard .ensures .0), search needs))
     (λ c. search needs) (λ c κs. search needs) (λ c κs. search needs)
-    (λ c. (rw (← c .before .before .before .before .index-of .ensures, no-lt (c .before .before .before .if1 .left),
-      ← c .before .r-index-word .ensures .0) (c .disc-soft .ensures .0), search needs)))
+    (λ c. (
+      rw (
+        ← c .before .before .before .before .index-of .ensures,
+        no-lt (c .before .before .before .if1 .left),
+        ← c .before .r-index-word .ensures .0,
+      ) (c .disc-soft .ensures .0),
+      search needs,
+    )))

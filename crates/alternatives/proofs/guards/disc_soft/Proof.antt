@@ -11,8 +11,13 @@ disc-soft-spec =
     (λ c. search needs) (λ c κs. search needs)
     (λ c. (rw (yes-eq (c .before .if1 .taken)) (c .put .ensures .0), search needs))
     (λ c. search needs) (λ c. search needs) (λ c κs. search needs)
-    (λ c. (rw (no-eq (c .before .before .before .before .if1 .left), yes-eq (c .before .if2 .taken)) (c .disclaim .ensures .0),
-      search needs))
+    (λ c. (
+      rw (no-eq (c .before .before .before .before .if1 .left), yes-eq (c .before .if2 .taken)) (c .disclaim .ensures .0),
+      search needs,
+    ))
     (λ c κs. search needs)
-    (λ c. (rw (no-eq (c .before .before .before .before .if1 .left), no-eq (c .before .if2 .left))
-      (c .is-this-selected-process .ensures .0), search needs)))
+    (λ c. (
+      rw (no-eq (c .before .before .before .before .if1 .left), no-eq (c .before .if2 .left))
+          (c .is-this-selected-process .ensures .0),
+      search needs,
+    )))

@@ -8,5 +8,7 @@ unfolding altwt
 altwt-spec =
     tie.close (tie.spec
     (λ c. search needs) (λ c κs. search needs) (λ c κs. search needs) (λ c κs. search needs)
-    (λ c. (rw (← c .before .before .w-index-word .ensures .0, ← c .before .r-index-word .ensures .0) (c .altwt-state .ensures .0),
-      search needs)))
+    (λ c. (
+      rw (← c .before .before .w-index-word .ensures .0, ← c .before .r-index-word .ensures .0) (c .altwt-state .ensures .0),
+      search needs,
+    )))

@@ -8,5 +8,11 @@ unfolding hardInputHeld
 hard-input-held-spec =
     tie.close (tie.spec
     (λ c. search needs) (λ c. search needs) (λ c κs. search needs) (λ c κs. search needs) (λ c κs. search needs) (λ c κs. search needs)
-    (λ c. (rw (← c .before .before .before .hard-start .ensures .0, ← c .before .before .lower .ensures .0,
-      ← c .before .meet-held .ensures .0) (c .goto-snp .ensures .0), search needs)))
+    (λ c. (
+      rw (
+        ← c .before .before .before .hard-start .ensures .0,
+        ← c .before .before .lower .ensures .0,
+        ← c .before .meet-held .ensures .0,
+      ) (c .goto-snp .ensures .0),
+      search needs,
+    )))

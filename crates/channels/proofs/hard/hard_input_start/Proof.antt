@@ -11,7 +11,13 @@ hard-input-start-spec =
     (λ c κs. search needs) (λ c κs. search needs)
     (λ c. (rw (yes-lt (c .before .before .if1 .taken), ← c .before .hard-start .ensures .0) (c .goto-snp .ensures .0), search needs))
     (λ c. search needs) (λ c. search needs) (λ c. search needs) (λ c. search needs) (λ c κs. search needs) (λ c κs. search needs)
-    (λ c. (rw (no-lt (c .before .before .before .before .if1 .left), yes-eq (c .before .before .if2 .taken),
-      ← c .before .hard-start2 .ensures .0) (c .goto-snp2 .ensures .0), search needs))
+    (λ c. (
+      rw (
+        no-lt (c .before .before .before .before .if1 .left),
+        yes-eq (c .before .before .if2 .taken),
+        ← c .before .hard-start2 .ensures .0,
+      ) (c .goto-snp2 .ensures .0),
+      search needs,
+    ))
     (λ c κs. search needs)
     (λ c. (rw (no-lt (c .before .before .before .if1 .left), no-eq (c .before .if2 .left)) (c .hard-input-held .ensures .0), search needs)))

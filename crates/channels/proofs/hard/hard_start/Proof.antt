@@ -8,5 +8,7 @@ unfolding hardStart
 hard-start-spec =
     tie.close (tie.spec
     (λ c. search needs) (λ c. search needs) (λ c κs. search needs) (λ c κs. search needs) (λ c κs. search needs)
-    (λ c. (rw (← c .before .before .w-index-word .ensures .0, ← c .before .save-iptr .ensures .0) (c .start-transfer .ensures .0),
-      search needs)))
+    (λ c. (
+      rw (← c .before .before .w-index-word .ensures .0, ← c .before .save-iptr .ensures .0) (c .start-transfer .ensures .0),
+      search needs,
+    )))

@@ -9,7 +9,15 @@ resetch-spec =
     tie.close (tie.spec
     (λ c. search needs) (λ c κs. search needs) (λ c κs. search needs) (λ c κs. search needs) (λ c κs. search needs) (λ c κs. search needs)
     (λ c κs. search needs) (λ c κs. search needs)
-    (λ c. (rw (← c .before .before .before .before .before .before .at-word .ensures,
-      ← c .before .before .before .before .before .word-at .ensures, ← c .before .before .before .before .load-word .ensures .0,
-      ← c .before .before .before .w-index-word .ensures .0, ← c .before .before .index-of .ensures, ← c .before .reset-hard .ensures .0)
-      (c .put .ensures .0), search needs)))
+    (λ c. (
+      rw (
+        ← c .before .before .before .before .before .before .at-word .ensures,
+        ← c .before .before .before .before .before .word-at .ensures,
+        ← c .before .before .before .before .load-word .ensures .0,
+        ← c .before .before .before .w-index-word .ensures .0,
+        ← c .before .before .index-of .ensures,
+        ← c .before .reset-hard .ensures .0,
+      )
+          (c .put .ensures .0),
+      search needs,
+    )))

@@ -8,5 +8,12 @@ unfolding inputReady
 input-ready-spec =
     tie.close (tie.spec
     (λ c κs. search needs) (λ c κs. search needs) (λ c κs. search needs) (λ c κs. search needs) (λ c κs. search needs)
-    (λ c. (rw (← c .before .before .before .before .at-word .ensures, ← c .before .before .before .word-at .ensures,
-      ← c .before .before .load-word .ensures .0, ← c .before .input-regs .ensures .0) (c .move-message .ensures .0), search needs)))
+    (λ c. (
+      rw (
+        ← c .before .before .before .before .at-word .ensures,
+        ← c .before .before .before .word-at .ensures,
+        ← c .before .before .load-word .ensures .0,
+        ← c .before .input-regs .ensures .0,
+      ) (c .move-message .ensures .0),
+      search needs,
+    )))

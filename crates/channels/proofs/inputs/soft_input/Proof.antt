@@ -11,5 +11,7 @@ soft-input-spec =
     (λ c κs. search needs)
     (λ c. (rw (yes-eq (c .before .if1 .taken)) (c .soft-wait .ensures .0), search needs))
     (λ c. search needs) (λ c κs. search needs) (λ c κs. search needs)
-    (λ c. (rw (no-eq (c .before .before .before .if1 .left), ← c .before .w-index-word .ensures .0) (c .input-ready .ensures .0),
-      search needs)))
+    (λ c. (
+      rw (no-eq (c .before .before .before .if1 .left), ← c .before .w-index-word .ensures .0) (c .input-ready .ensures .0),
+      search needs,
+    )))

@@ -8,5 +8,8 @@ unfolding outputLocal
 output-local-spec =
     tie.close (tie.spec
     (λ c. search needs) (λ c. search needs) (λ c κs. search needs) (λ c κs. search needs) (λ c κs. search needs) (λ c κs. search needs)
-    (λ c. (rw (← c .before .before .before .w-index-word .ensures .0, ← c .before .before .put .ensures .0, ← c .before .put2 .ensures .0)
-      (c .output .ensures .0), search needs)))
+    (λ c. (
+      rw (← c .before .before .before .w-index-word .ensures .0, ← c .before .before .put .ensures .0, ← c .before .put2 .ensures .0)
+          (c .output .ensures .0),
+      search needs,
+    )))

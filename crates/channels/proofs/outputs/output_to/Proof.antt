@@ -13,8 +13,14 @@ output-to-spec =
     (λ c κs. search needs)
     (λ c. (rw (no-eq (c .before .before .if1 .left), yes-eq (c .before .if2 .taken)) (c .output-waiting .ensures .0), search needs))
     (λ c κs. search needs)
-    (λ c. (rw (no-eq (c .before .before .before .if1 .left), no-eq (c .before .before .if2 .left), yes-eq (c .before .if3 .taken))
-      (c .soft-wait .ensures .0), search needs))
+    (λ c. (
+      rw (no-eq (c .before .before .before .if1 .left), no-eq (c .before .before .if2 .left), yes-eq (c .before .if3 .taken))
+          (c .soft-wait .ensures .0),
+      search needs,
+    ))
     (λ c κs. search needs)
-    (λ c. (rw (no-eq (c .before .before .before .if1 .left), no-eq (c .before .before .if2 .left), no-eq (c .before .if3 .left))
-      (c .output-message .ensures .0), search needs)))
+    (λ c. (
+      rw (no-eq (c .before .before .before .if1 .left), no-eq (c .before .before .if2 .left), no-eq (c .before .if3 .left))
+          (c .output-message .ensures .0),
+      search needs,
+    )))

@@ -12,8 +12,14 @@ ready-status-spec =
     (λ c. (rw (yes-eq (c .before .if1 .taken)) (c .w-index-word .ensures .0), search needs))
     (λ c. (rw (no-eq (c .before .if1 .left), yes-eq (c .if2 .taken)), search needs))
     (λ c κs. search needs)
-    (λ c. (rw (no-eq (c .before .before .before .if1 .left), no-eq (c .before .before .if2 .left), yes-eq (c .before .if3 .taken))
-      (c .ready-waiting .ensures .0), search needs))
+    (λ c. (
+      rw (no-eq (c .before .before .before .if1 .left), no-eq (c .before .before .if2 .left), yes-eq (c .before .if3 .taken))
+          (c .ready-waiting .ensures .0),
+      search needs,
+    ))
     (λ c κs. search needs)
-    (λ c. (rw (no-eq (c .before .before .before .if1 .left), no-eq (c .before .before .if2 .left), no-eq (c .before .if3 .left))
-      (c .refuse .ensures .0), search needs)))
+    (λ c. (
+      rw (no-eq (c .before .before .before .if1 .left), no-eq (c .before .before .if2 .left), no-eq (c .before .if3 .left))
+          (c .refuse .ensures .0),
+      search needs,
+    )))

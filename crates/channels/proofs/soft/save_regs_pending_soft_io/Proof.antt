@@ -9,5 +9,8 @@ save-regs-pending-soft-io-spec =
     tie.close (tie.spec
     (λ c. search needs) (λ c. search needs) (λ c. search needs) (λ c κs. search needs) (λ c κs. search needs) (λ c. search needs)
     (λ c κs. search needs)
-    (λ c. (rw (← c .before .before .before .w-index-word .ensures .0, ← c .before .before .save-iptr .ensures .0)
-      (c .w-index-word2 .ensures .0), search needs)))
+    (λ c. (
+      rw (← c .before .before .before .w-index-word .ensures .0, ← c .before .before .save-iptr .ensures .0)
+          (c .w-index-word2 .ensures .0),
+      search needs,
+    )))

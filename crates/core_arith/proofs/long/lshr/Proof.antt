@@ -24,6 +24,11 @@ lshr-spec =
     returns-2
     (λ c κs. search needs) (λ c. search needs) (λ c. search needs) (λ c κs. search needs) (λ c κs. search needs) (λ c κs. search needs)
     (λ c κs. search needs)
-    (λ c. rw (no-lt (c .before .before .before .before .before .before .before .before .if1 .left),
-      ← c .before .before .before .before .before .double .ensures, c .completed2 .ensures, c .before .split2 .ensures,
-      c .before .before .before .high-word .ensures, c .before .before .low-word .ensures)))
+    (λ c. rw (
+      no-lt (c .before .before .before .before .before .before .before .before .if1 .left),
+      ← c .before .before .before .before .before .double .ensures,
+      c .completed2 .ensures,
+      c .before .split2 .ensures,
+      c .before .before .before .high-word .ensures,
+      c .before .before .low-word .ensures,
+    )))

@@ -13,4 +13,4 @@ div-spec =
     (λ c κs. divided (c .before .before .args .s) (c .if1 .left) (c .before .undivided .ensures))
     (λ c κs. search needs)
     (λ c. rw (← c .before .before .before .undivided .ensures, c .before .before .if1 .left, ← c .before .quotient .ensures)
-      (c .result .ensures)))
+    (c .result .ensures)))

@@ -29,21 +29,36 @@ pub mul-spec : {M : Type 1} → statement M
 mul-spec =
     tie.close (tie.spec
     (λ c κs. search needs) (λ c. search needs) (λ c κs. search needs) (λ c. search needs)
-    (λ c. omega (arith, product-small (c .before .magnitude .result) (c .magnitude2 .result) (c .before .magnitude .ensures .1)
-      (c .magnitude2 .ensures .1)))
-    (λ c κs. omega (arith, product-small (c .before .before .before .before .before .magnitude .result)
-      (c .before .before .before .before .magnitude2 .result) (c .before .before .before .before .before .magnitude .ensures .1)
-      (c .before .before .before .before .magnitude2 .ensures .1)))
+    (λ c. omega (
+      arith,
+      product-small (c .before .magnitude .result) (c .magnitude2 .result) (c .before .magnitude .ensures .1)
+          (c .magnitude2 .ensures .1),
+    ))
+    (λ c κs. omega (
+      arith,
+      product-small (c .before .before .before .before .before .magnitude .result)
+          (c .before .before .before .before .magnitude2 .result) (c .before .before .before .before .before .magnitude .ensures .1)
+          (c .before .before .before .before .magnitude2 .ensures .1),
+    ))
     returns
-    (λ c κs. omega (arith, product-small (c .before .before .before .before .before .magnitude .result)
-      (c .before .before .before .before .magnitude2 .result) (c .before .before .before .before .before .magnitude .ensures .1)
-      (c .before .before .before .before .magnitude2 .ensures .1)))
+    (λ c κs. omega (
+      arith,
+      product-small (c .before .before .before .before .before .magnitude .result)
+          (c .before .before .before .before .magnitude2 .result) (c .before .before .before .before .before .magnitude .ensures .1)
+          (c .before .before .before .before .magnitude2 .ensures .1),
+    ))
     returns-2
-    (λ c κs. omega (arith, product-small (c .before .before .before .before .before .magnitude .result)
-      (c .before .before .before .before .magnitude2 .result) (c .before .before .before .before .before .magnitude .ensures .1)
-      (c .before .before .before .before .magnitude2 .ensures .1)))
+    (λ c κs. omega (
+      arith,
+      product-small (c .before .before .before .before .before .magnitude .result)
+          (c .before .before .before .before .magnitude2 .result) (c .before .before .before .before .before .magnitude .ensures .1)
+          (c .before .before .before .before .magnitude2 .ensures .1),
+    ))
     returns-3
-    (λ c κs. omega (arith, product-small (c .before .before .before .before .before .magnitude .result)
-      (c .before .before .before .before .magnitude2 .result) (c .before .before .before .before .before .magnitude .ensures .1)
-      (c .before .before .before .before .magnitude2 .ensures .1)))
+    (λ c κs. omega (
+      arith,
+      product-small (c .before .before .before .before .before .magnitude .result)
+          (c .before .before .before .before .magnitude2 .result) (c .before .before .before .before .before .magnitude .ensures .1)
+          (c .before .before .before .before .magnitude2 .ensures .1),
+    ))
     returns-4)

@@ -10,5 +10,7 @@ save-queue-spec =
     (λ c. search needs) (λ c. search needs) (λ c. search needs) (λ c. search needs) (λ c. search needs) (λ c. search needs)
     (λ c. search needs) (λ c. search needs) (λ c. search needs) (λ c κs. search needs) (λ c. search needs) (λ c κs. search needs)
     (λ c κs. search needs)
-    (λ c. (rw (← c .before .before .before .w-index-word .ensures .0, ← c .before .w-index-word2 .ensures .0) (c .popped .ensures .0),
-      search needs)))
+    (λ c. (
+      rw (← c .before .before .before .w-index-word .ensures .0, ← c .before .w-index-word2 .ensures .0) (c .popped .ensures .0),
+      search needs,
+    )))

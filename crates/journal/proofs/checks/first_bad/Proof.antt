@@ -1,6 +1,6 @@
 use mathlib.Core.Path.{sym, _∙_}
 use Prim.Native.Nat.{_-_}
-use Rattle.journal.proofs.Refusing.{bad-size, bad-channel, bad-frame, bad-none}
+use Rattle.journal.proofs.Refusing.{bad-size, bad-channel, bad-bounds, bad-none}
 use borrow.Author.Needs.{needs}
 use Rattle.journal.proofs.checks.first_bad.Statement.{statement}
 use Rattle.journal.proofs.checks.first_bad.Tie as tie
@@ -14,7 +14,7 @@ returns-3 : tie.Need-returns-3
 returns-3 c =
     let f = c .before in
     let i = f .before .before in
-    bad-frame _ _ _ _ _ (sym (i .before .size-bad .ensures) ∙ i .if1 .left) (f .before .if2 .left) (sym (f .bounds-bad .ensures) ∙ c .if3 .taken)
+    bad-bounds _ _ _ _ _ (sym (i .before .size-bad .ensures) ∙ i .if1 .left) (f .before .if2 .left) (sym (f .bounds-bad .ensures) ∙ c .if3 .taken)
 
 returns-4 : tie.Need-returns-4
 returns-4 c =

@@ -7,7 +7,7 @@ use Rattle.rules.specs.Memory.{stores, touched}
 use Rattle.rules.specs.Journal.{recordLength}
 use Rattle.rules.specs.declared.Answer.the-variants.{JournalFull}
 use Rattle.plan.specs.View.{view}
-use Rattle.journal_record.proofs.Frame.{frame-good}
+use Rattle.journal_record.proofs.JournalBounds.{bounds-good}
 use Rattle.journal_record.proofs.Outcomes.{refusal-is, number-full, commit-full, commit-done}
 use borrow.Author.Needs.{needs}
 use Rattle.journal.proofs.commit.commit.Statement.{statement}
@@ -15,7 +15,7 @@ use Rattle.journal.proofs.commit.commit.Tie as tie
 
 -- the bounds of the journal, and the limits of memory and journal
 good : (c : tie.Start) → (c .args .m .used ≤ length (c .args .journal .now)) × (recordLength 0 * c .args .m .depth ≤ c .args .m .used) × (length (c .args .journal .now) ≤ 65536) × (length (c .args .mem .now) ≤ 16384)
-good c = let f = frame-good _ _ _ (c .pre .4) in (f .0, f .1, c .pre .3, c .pre .2)
+good c = let f = bounds-good _ _ _ (c .pre .4) in (f .0, f .1, c .pre .3, c .pre .2)
 
 is-full-requires : tie.Need-is-full-requires
 is-full-requires c κs =
@@ -67,8 +67,10 @@ commit-spec =
     returns
     append-requires
     (λ c κs. search needs)
-    (λ c. omega (arith,
-      good (c .before .before .before .before .before .before .before .before .before .before .before .before .before .before .before .before)))
+    (λ c. omega (
+      arith,
+      good (c .before .before .before .before .before .before .before .before .before .before .before .before .before .before .before .before),
+    ))
     (λ c. search needs) (λ c. search needs)
     add-t25
     (λ c. search needs) (λ c. search needs)

@@ -1,7 +1,7 @@
 use mathlib.Core.Path.{_∙_}
 use Prim.Native.Nat.{_-_}
 use Rattle.plan.specs.View.{view}
-use Rattle.journal.proofs.Settled.{commit-or-refuse-refused, commit-or-refuse-done}
+use Rattle.journal.proofs.CommitOrRefuse.{commit-or-refuse-refused, commit-or-refuse-done}
 use borrow.Author.Needs.{needs}
 use Rattle.journal.proofs.outcome.commit_or_refuse.Statement.{statement}
 use Rattle.journal.proofs.outcome.commit_or_refuse.Tie as tie

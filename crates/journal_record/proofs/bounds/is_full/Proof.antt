@@ -1,5 +1,5 @@
 use Prim.Native.Nat.{_-_}
-use Rattle.journal_record.proofs.Frame.{full}
+use Rattle.journal_record.proofs.JournalBounds.{full}
 use borrow.Author.Needs.{needs}
 use Rattle.journal_record.proofs.bounds.is_full.Statement.{statement}
 use Rattle.journal_record.proofs.bounds.is_full.Tie as tie

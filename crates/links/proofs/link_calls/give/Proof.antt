@@ -13,8 +13,18 @@ give-spec =
     (λ c κs. search needs) (λ c κs. search needs)
     (λ c. (rw (moving-yes _ _ (sym (c .before .before .moving .ensures) ∙ c .before .if1 .taken)) (c .receive .ensures .0), search needs))
     (λ c. search needs) (λ c. search needs) (λ c. search needs) (λ c. search needs) (λ c κs. search needs)
-    (λ c. (rw (moving-no _ _ (sym (c .before .before .before .before .moving .ensures) ∙ c .before .before .before .if1 .left),
-      yes-eq (c .before .if2 .taken)) (c .hold .ensures .0), search needs))
+    (λ c. (
+      rw (
+        moving-no _ _ (sym (c .before .before .before .before .moving .ensures) ∙ c .before .before .before .if1 .left),
+        yes-eq (c .before .if2 .taken),
+      ) (c .hold .ensures .0),
+      search needs,
+    ))
     (λ c κs. search needs)
-    (λ c. (rw (moving-no _ _ (sym (c .before .before .before .before .moving .ensures) ∙ c .before .before .before .if1 .left),
-      no-eq (c .before .if2 .left)) (c .refuse .ensures .0), search needs)))
+    (λ c. (
+      rw (
+        moving-no _ _ (sym (c .before .before .before .before .moving .ensures) ∙ c .before .before .before .if1 .left),
+        no-eq (c .before .if2 .left),
+      ) (c .refuse .ensures .0),
+      search needs,
+    )))

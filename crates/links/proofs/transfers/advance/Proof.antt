@@ -10,5 +10,12 @@ advance-spec =
     (λ c. search needs) (λ c. search needs) (λ c. search needs) (λ c. search needs) (λ c. search needs) (λ c. search needs)
     (λ c κs. search needs) (λ c. search needs) (λ c. search needs) (λ c κs. search needs) (λ c κs. search needs) (λ c κs. search needs)
     (λ c κs. search needs)
-    (λ c. (rw (← c .before .before .before .before .before .at-byte .ensures, ← c .before .before .before .wrap-add .ensures,
-      ← c .before .before .put .ensures .0, ← c .before .put2 .ensures .0) (c .end-at-zero .ensures .0), search needs)))
+    (λ c. (
+      rw (
+        ← c .before .before .before .before .before .at-byte .ensures,
+        ← c .before .before .before .wrap-add .ensures,
+        ← c .before .before .put .ensures .0,
+        ← c .before .put2 .ensures .0,
+      ) (c .end-at-zero .ensures .0),
+      search needs,
+    )))

@@ -9,6 +9,14 @@ store-byte-spec =
     tie.close (tie.spec
     (λ c κs. search needs) (λ c κs. search needs) (λ c κs. search needs) (λ c κs. search needs) (λ c κs. search needs)
     (λ c κs. search needs)
-    (λ c. (rw (← c .before .before .before .before .before .selector .ensures .0, ← c .before .before .before .before .word-at .ensures,
-      ← c .before .before .before .with-byte .ensures, ← c .before .before .access .ensures .0, ← c .before .index-of .ensures)
-      (c .append-word .ensures .0), search needs)))
+    (λ c. (
+      rw (
+        ← c .before .before .before .before .before .selector .ensures .0,
+        ← c .before .before .before .before .word-at .ensures,
+        ← c .before .before .before .with-byte .ensures,
+        ← c .before .before .access .ensures .0,
+        ← c .before .index-of .ensures,
+      )
+          (c .append-word .ensures .0),
+      search needs,
+    )))

@@ -13,8 +13,11 @@ came-from-spec =
     tie.close (tie.spec
     (λ c. rw (yes-lt (c .if1 .taken)))
     (λ c. search needs) (λ c. search needs) (λ c. search needs)
-    (λ c. omega (arith, mod-lt (c .before .before .before .args .a - c .before .before .before .args .d)
-      {m = c .before .before .before .args .d - c .before .before .before .args .s} (omega arith)))
+    (λ c. omega (
+      arith,
+      mod-lt (c .before .before .before .args .a - c .before .before .before .args .d)
+          {m = c .before .before .before .args .d - c .before .before .before .args .s} (omega arith),
+    ))
     (λ c. rw (no-lt (c .before .before .if1 .left), yes-lt (c .before .if2 .taken), yes-lt (c .if3 .taken)))
     (λ c. search needs)
     (λ c. rw (no-lt (c .before .before .if1 .left), yes-lt (c .before .if2 .taken), no-lt (c .if3 .left)))

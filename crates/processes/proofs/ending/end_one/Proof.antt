@@ -8,5 +8,7 @@ unfolding endOne
 end-one-spec =
     tie.close (tie.spec
     (λ c κs. search needs) (λ c. search needs) (λ c κs. search needs) (λ c κs. search needs)
-    (λ c. (rw (← c .before .before .before .wrap-add .ensures, ← c .before .w-index-word .ensures .0) (c .goto-snp .ensures .0),
-      search needs)))
+    (λ c. (
+      rw (← c .before .before .before .wrap-add .ensures, ← c .before .w-index-word .ensures .0) (c .goto-snp .ensures .0),
+      search needs,
+    )))

@@ -8,5 +8,11 @@ unfolding lend
 lend-spec =
     tie.close (tie.spec
     (λ c κs. search needs) (λ c κs. search needs) (λ c κs. search needs) (λ c κs. search needs)
-    (λ c. (rw (← c .before .before .before .count-down .ensures .0, ← c .before .before .store-count .ensures .0,
-      ← c .before .loop-on .ensures .0) (c .time-slice .ensures .0), search needs)))
+    (λ c. (
+      rw (
+        ← c .before .before .before .count-down .ensures .0,
+        ← c .before .before .store-count .ensures .0,
+        ← c .before .loop-on .ensures .0,
+      ) (c .time-slice .ensures .0),
+      search needs,
+    )))

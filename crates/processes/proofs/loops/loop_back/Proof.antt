@@ -9,5 +9,7 @@ loop-back-spec =
     tie.close (tie.spec
     (λ c. search needs) (λ c. search needs) (λ c κs. search needs) (λ c. search needs) (λ c. search needs) (λ c κs. search needs)
     (λ c κs. search needs)
-    (λ c. (rw (← c .before .before .before .before .back-by .ensures, ← c .before .w-index-word .ensures .0) (c .put .ensures .0),
-      search needs)))
+    (λ c. (
+      rw (← c .before .before .before .before .back-by .ensures, ← c .before .w-index-word .ensures .0) (c .put .ensures .0),
+      search needs,
+    )))

@@ -9,6 +9,9 @@ unfolding loopOn
 loop-on-spec =
     tie.close (tie.spec
     (λ c. search needs) (λ c κs. search needs) (λ c κs. search needs) (λ c κs. search needs)
-    (λ c. (rw (← c .before .before .before .positive .ensures, yes (c .before .before .if1 .taken), ← c .before .count-up .ensures .0)
-      (c .loop-back .ensures .0), search needs))
+    (λ c. (
+      rw (← c .before .before .before .positive .ensures, yes (c .before .before .if1 .taken), ← c .before .count-up .ensures .0)
+          (c .loop-back .ensures .0),
+      search needs,
+    ))
     (λ c. (rw (← c .before .positive .ensures, no (c .if1 .left)), search needs)))

@@ -9,5 +9,7 @@ startp-spec =
     tie.close (tie.spec
     (λ c. search needs) (λ c. search needs) (λ c κs. search needs) (λ c. search needs) (λ c. search needs) (λ c. search needs)
     (λ c κs. search needs) (λ c κs. search needs)
-    (λ c. (rw (← c .before .before .before .before .before .at-byte .ensures, ← c .before .w-index-word .ensures .0) (c .run .ensures .0),
-      search needs)))
+    (λ c. (
+      rw (← c .before .before .before .before .before .at-byte .ensures, ← c .before .w-index-word .ensures .0) (c .run .ensures .0),
+      search needs,
+    )))

@@ -9,7 +9,9 @@ unfolding selectFirst
 select-first-spec =
     tie.close (tie.spec
     (λ c. search needs) (λ c. search needs) (λ c κs. search needs) (λ c κs. search needs)
-    (λ c. (rw (yes-eq (c .before .before .before .before .if1 .taken), ← c .before .w-index-word .ensures .0) (c .put .ensures .0),
-      search needs))
+    (λ c. (
+      rw (yes-eq (c .before .before .before .before .if1 .taken), ← c .before .w-index-word .ensures .0) (c .put .ensures .0),
+      search needs,
+    ))
     (λ c κs. search needs)
     (λ c. (rw (no-eq (c .before .if1 .left)) (c .put2 .ensures .0), search needs)))

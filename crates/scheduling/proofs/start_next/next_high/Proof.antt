@@ -9,7 +9,9 @@ unfolding nextHigh
 next-high-spec =
     tie.close (tie.spec
     (λ c. search needs) (λ c κs. search needs) (λ c κs. search needs)
-    (λ c. (rw (yes-eq (c .before .before .if1 .taken), ← c .before .restore-registers .ensures .0) (c .resume-or-start .ensures .0),
-      search needs))
+    (λ c. (
+      rw (yes-eq (c .before .before .if1 .taken), ← c .before .restore-registers .ensures .0) (c .resume-or-start .ensures .0),
+      search needs,
+    ))
     (λ c κs. search needs)
     (λ c. (rw (no-eq (c .before .if1 .left)) (c .start-queued .ensures .0), search needs)))

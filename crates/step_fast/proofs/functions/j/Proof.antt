@@ -12,4 +12,4 @@ j-spec =
     (λ c. rw (← c .before .before .slice-ends .ensures, c .before .if1 .taken) (c .decline .ensures))
     (λ c κs. search needs) (λ c κs. search needs)
     (λ c. rw (← c .before .before .before .slice-ends .ensures, c .before .before .if1 .left, ← c .before .at-byte .ensures)
-      (c .finish .ensures)))
+    (c .finish .ensures)))

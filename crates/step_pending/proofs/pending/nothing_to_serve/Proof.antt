@@ -11,6 +11,11 @@ nothing-to-serve-spec =
     (λ c κs. search needs) (λ c κs. search needs)
     (λ c. rw (← c .before .before .before .no-request .ensures, c .before .before .if1 .taken, ← c .before .due .ensures, c .if2 .taken))
     (λ c κs. search needs)
-    (λ c. rw (← c .before .before .before .before .no-request .ensures, c .before .before .before .if1 .taken,
-      ← c .before .before .due .ensures, c .before .if2 .left, ← c .due2 .ensures))
+    (λ c. rw (
+      ← c .before .before .before .before .no-request .ensures,
+      c .before .before .before .if1 .taken,
+      ← c .before .before .due .ensures,
+      c .before .if2 .left,
+      ← c .due2 .ensures,
+    ))
     (λ c. rw (← c .before .no-request .ensures, c .if1 .left)))

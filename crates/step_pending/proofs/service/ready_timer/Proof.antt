@@ -11,7 +11,15 @@ ready-timer-spec =
     (λ c κs. search needs)
     (λ c. rw (← c .before .timer-ready .ensures, c .if1 .taken) refl)
     (λ c κs. search needs)
-    (λ c. rw (← c .before .before .before .timer-ready .ensures, c .before .before .if1 .left, ← c .before .timer-ready2 .ensures,
-      c .if2 .taken) refl)
-    (λ c. rw (← c .before .before .before .timer-ready .ensures, c .before .before .if1 .left, ← c .before .timer-ready2 .ensures,
-      c .if2 .left) refl))
+    (λ c. rw (
+      ← c .before .before .before .timer-ready .ensures,
+      c .before .before .if1 .left,
+      ← c .before .timer-ready2 .ensures,
+      c .if2 .taken,
+    ) refl)
+    (λ c. rw (
+      ← c .before .before .before .timer-ready .ensures,
+      c .before .before .if1 .left,
+      ← c .before .timer-ready2 .ensures,
+      c .if2 .left,
+    ) refl))

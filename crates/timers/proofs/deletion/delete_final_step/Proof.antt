@@ -8,5 +8,11 @@ unfolding deleteFinalStep
 delete-final-step-spec =
     tie.close (tie.spec
     (λ c. search needs) (λ c. search needs) (λ c κs. search needs) (λ c κs. search needs) (λ c κs. search needs) (λ c κs. search needs)
-    (λ c. (rw (← c .before .before .before .r-index-word .ensures .0, ← c .before .before .delete-link .ensures .0,
-      ← c .before .r-index-word2 .ensures .0) (c .delete-next .ensures .0), search needs)))
+    (λ c. (
+      rw (
+        ← c .before .before .before .r-index-word .ensures .0,
+        ← c .before .before .delete-link .ensures .0,
+        ← c .before .r-index-word2 .ensures .0,
+      ) (c .delete-next .ensures .0),
+      search needs,
+    )))

@@ -9,5 +9,12 @@ delete-first-step-spec =
     tie.close (tie.spec
     (λ c. search needs) (λ c κs. search needs) (λ c κs. search needs) (λ c κs. search needs) (λ c. search needs) (λ c κs. search needs)
     (λ c κs. search needs)
-    (λ c. (rw (← c .before .before .before .before .level .ensures .0, ← c .before .before .before .t-enabled .ensures,
-      ← c .before .before .lower .ensures .0, ← c .before .tptr-loc .ensures) (c .delete-walk .ensures .0), search needs)))
+    (λ c. (
+      rw (
+        ← c .before .before .before .before .level .ensures .0,
+        ← c .before .before .before .t-enabled .ensures,
+        ← c .before .before .lower .ensures .0,
+        ← c .before .tptr-loc .ensures,
+      ) (c .delete-walk .ensures .0),
+      search needs,
+    )))

@@ -11,5 +11,7 @@ delete-next-spec =
     (λ c. search needs)
     (λ c. (rw (yes-eq (c .if1 .taken)), search needs))
     (λ c. search needs) (λ c κs. search needs) (λ c. search needs) (λ c κs. search needs)
-    (λ c. (rw (no-eq (c .before .before .before .before .if1 .left), ← c .before .before .level .ensures .0) (c .set-next .ensures .0),
-      search needs)))
+    (λ c. (
+      rw (no-eq (c .before .before .before .before .if1 .left), ← c .before .before .level .ensures .0) (c .set-next .ensures .0),
+      search needs,
+    )))

@@ -9,7 +9,14 @@ unfolding distSet
 dist-set-spec =
     tie.close (tie.spec
     (λ c. search needs) (λ c κs. search needs) (λ c κs. search needs) (λ c κs. search needs) (λ c κs. search needs)
-    (λ c. (rw (yes-eq (c .before .before .before .before .before .if1 .taken), ← c .before .before .before .at-word .ensures,
-      ← c .before .before .word-at .ensures, ← c .before .load-word .ensures .0) (c .dist-ready .ensures .0), search needs))
+    (λ c. (
+      rw (
+        yes-eq (c .before .before .before .before .before .if1 .taken),
+        ← c .before .before .before .at-word .ensures,
+        ← c .before .before .word-at .ensures,
+        ← c .before .load-word .ensures .0,
+      ) (c .dist-ready .ensures .0),
+      search needs,
+    ))
     (λ c κs. search needs) (λ c κs. search needs)
     (λ c. (rw (no-eq (c .before .before .if1 .left), ← c .before .delete-first-step .ensures .0) (c .put .ensures .0), search needs)))

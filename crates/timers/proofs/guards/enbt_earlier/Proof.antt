@@ -8,6 +8,8 @@ unfolding enbtEarlier
 enbt-earlier-spec =
     tie.close (tie.spec
     (λ c. search needs) (λ c κs. search needs) (λ c. search needs) (λ c. search needs) (λ c κs. search needs)
-    (λ c. (rw (← c .before .before .before .before .later .ensures, c .before .before .before .if1 .taken) (c .w-index-word .ensures .0),
-      search needs))
+    (λ c. (
+      rw (← c .before .before .before .before .later .ensures, c .before .before .before .if1 .taken) (c .w-index-word .ensures .0),
+      search needs,
+    ))
     (λ c. (rw (← c .before .later .ensures, c .if1 .left), search needs)))

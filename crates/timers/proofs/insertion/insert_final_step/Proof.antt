@@ -8,5 +8,11 @@ unfolding insertFinalStep
 insert-final-step-spec =
     tie.close (tie.spec
     (λ c. search needs) (λ c κs. search needs) (λ c κs. search needs) (λ c κs. search needs) (λ c κs. search needs)
-    (λ c. (rw (← c .before .before .before .insert-link .ensures .0, ← c .before .before .put .ensures .0,
-      ← c .before .r-index-word .ensures .0) (c .insert-next .ensures .0), search needs)))
+    (λ c. (
+      rw (
+        ← c .before .before .before .insert-link .ensures .0,
+        ← c .before .before .put .ensures .0,
+        ← c .before .r-index-word .ensures .0,
+      ) (c .insert-next .ensures .0),
+      search needs,
+    )))

@@ -9,5 +9,12 @@ insert-first-step-spec =
     tie.close (tie.spec
     (λ c. search needs) (λ c. search needs) (λ c. search needs) (λ c κs. search needs) (λ c κs. search needs) (λ c κs. search needs)
     (λ c κs. search needs) (λ c. search needs) (λ c κs. search needs)
-    (λ c. (rw (← c .before .before .before .before .level .ensures .0, ← c .before .before .before .tptr-loc .ensures,
-      ← c .before .before .w-index-word .ensures .0, ← c .before .w-index-word2 .ensures .0) (c .insert-walk .ensures .0), search needs)))
+    (λ c. (
+      rw (
+        ← c .before .before .before .before .level .ensures .0,
+        ← c .before .before .before .tptr-loc .ensures,
+        ← c .before .before .w-index-word .ensures .0,
+        ← c .before .w-index-word2 .ensures .0,
+      ) (c .insert-walk .ensures .0),
+      search needs,
+    )))

@@ -8,5 +8,7 @@ unfolding insertLink
 insert-link-spec =
     tie.close (tie.spec
     (λ c. search needs) (λ c κs. search needs) (λ c κs. search needs) (λ c κs. search needs)
-    (λ c. (rw (← c .before .before .w-index-word .ensures .0, ← c .before .w-index-word2 .ensures .0) (c .save-iptr .ensures .0),
-      search needs)))
+    (λ c. (
+      rw (← c .before .before .w-index-word .ensures .0, ← c .before .w-index-word2 .ensures .0) (c .save-iptr .ensures .0),
+      search needs,
+    )))

@@ -8,5 +8,12 @@ unfolding timerFront
 timer-front-spec =
     tie.close (tie.spec
     (λ c κs. search needs) (λ c κs. search needs) (λ c κs. search needs) (λ c κs. search needs) (λ c κs. search needs)
-    (λ c. (rw (← c .before .before .before .before .at-word .ensures, ← c .before .before .before .word-at .ensures,
-      ← c .before .before .load-word .ensures .0, ← c .before .timer-unlink .ensures .0) (c .timer-wake .ensures .0), search needs)))
+    (λ c. (
+      rw (
+        ← c .before .before .before .before .at-word .ensures,
+        ← c .before .before .before .word-at .ensures,
+        ← c .before .before .load-word .ensures .0,
+        ← c .before .timer-unlink .ensures .0,
+      ) (c .timer-wake .ensures .0),
+      search needs,
+    )))

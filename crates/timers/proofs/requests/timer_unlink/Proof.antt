@@ -8,5 +8,7 @@ unfolding timerUnlink
 timer-unlink-spec =
     tie.close (tie.spec
     (λ c κs. search needs) (λ c. search needs) (λ c κs. search needs) (λ c κs. search needs)
-    (λ c. (rw (← c .before .before .w-index-word .ensures .0, ← c .before .w-index-word2 .ensures .0) (c .timer-next .ensures .0),
-      search needs)))
+    (λ c. (
+      rw (← c .before .before .w-index-word .ensures .0, ← c .before .w-index-word2 .ensures .0) (c .timer-next .ensures .0),
+      search needs,
+    )))

@@ -11,7 +11,13 @@ taltwt-link-spec =
     (λ c. search needs) (λ c κs. search needs)
     (λ c. (rw (yes-eq (c .before .if1 .taken)) (c .wait .ensures .0), search needs))
     (λ c. search needs) (λ c. search needs) (λ c κs. search needs) (λ c κs. search needs)
-    (λ c. (rw (no-eq (c .before .before .before .before .before .if1 .left), yes-eq (c .before .before .before .if2 .taken),
-      ← c .before .r-index-word .ensures .0) (c .taltwt-time .ensures .0), search needs))
+    (λ c. (
+      rw (
+        no-eq (c .before .before .before .before .before .if1 .left),
+        yes-eq (c .before .before .before .if2 .taken),
+        ← c .before .r-index-word .ensures .0,
+      ) (c .taltwt-time .ensures .0),
+      search needs,
+    ))
     (λ c κs. search needs)
     (λ c. (rw (no-eq (c .before .before .before .if1 .left), no-eq (c .before .if2 .left)) (c .refuse .ensures .0), search needs)))

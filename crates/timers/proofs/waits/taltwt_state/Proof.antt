@@ -11,5 +11,7 @@ taltwt-state-spec =
     (λ c. search needs) (λ c κs. search needs)
     (λ c. (rw (yes-eq (c .before .if1 .taken)) (c .time-now .ensures .0), search needs))
     (λ c. search needs) (λ c κs. search needs) (λ c κs. search needs)
-    (λ c. (rw (no-eq (c .before .before .before .if1 .left), ← c .before .r-index-word .ensures .0) (c .taltwt-link .ensures .0),
-      search needs)))
+    (λ c. (
+      rw (no-eq (c .before .before .before .if1 .left), ← c .before .r-index-word .ensures .0) (c .taltwt-link .ensures .0),
+      search needs,
+    )))

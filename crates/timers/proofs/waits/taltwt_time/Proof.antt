@@ -9,9 +9,23 @@ taltwt-time-spec =
     tie.close (tie.spec
     (λ c. search needs) (λ c κs. search needs) (λ c. search needs) (λ c. search needs) (λ c. search needs) (λ c. search needs)
     (λ c κs. search needs) (λ c. search needs) (λ c κs. search needs) (λ c κs. search needs)
-    (λ c. (rw (← c .before .before .before .before .before .before .before .level .ensures .0,
-      ← c .before .before .before .before .later .ensures, c .before .before .before .if1 .taken, ← c .before .w-index-word .ensures .0)
-      (c .time-now .ensures .0), search needs))
+    (λ c. (
+      rw (
+        ← c .before .before .before .before .before .before .before .level .ensures .0,
+        ← c .before .before .before .before .later .ensures,
+        c .before .before .before .if1 .taken,
+        ← c .before .w-index-word .ensures .0,
+      )
+          (c .time-now .ensures .0),
+      search needs,
+    ))
     (λ c κs. search needs) (λ c κs. search needs)
-    (λ c. (rw (← c .before .before .before .before .before .before .level .ensures .0, ← c .before .before .before .later .ensures,
-      c .before .before .if1 .left, ← c .before .next-time .ensures .0) (c .insert-first-step .ensures .0), search needs)))
+    (λ c. (
+      rw (
+        ← c .before .before .before .before .before .before .level .ensures .0,
+        ← c .before .before .before .later .ensures,
+        c .before .before .if1 .left,
+        ← c .before .next-time .ensures .0,
+      ) (c .insert-first-step .ensures .0),
+      search needs,
+    )))

@@ -11,5 +11,12 @@ tin-spec =
     (λ c κs. search needs)
     (λ c. (rw (← c .before .before .before .before .level .ensures .0, ← c .before .later .ensures, c .if1 .taken), search needs))
     (λ c κs. search needs) (λ c κs. search needs)
-    (λ c. (rw (← c .before .before .before .before .before .before .level .ensures .0, ← c .before .before .before .later .ensures,
-      c .before .before .if1 .left, ← c .before .next-time .ensures .0) (c .insert-first-step .ensures .0), search needs)))
+    (λ c. (
+      rw (
+        ← c .before .before .before .before .before .before .level .ensures .0,
+        ← c .before .before .before .later .ensures,
+        c .before .before .if1 .left,
+        ← c .before .next-time .ensures .0,
+      ) (c .insert-first-step .ensures .0),
+      search needs,
+    )))

@@ -1,0 +1,91 @@
+-- The outcome of a call after the checks: of a plan, an undo, a clear.
+use mathlib.Core.Path.{_≡_, ap}
+use mathlib.Core.Bool.{Bool, true, false, _||_}
+use mathlib.Core.List.{List}
+use Prim.Native.Nat.{ℕ, _≤_}
+use native.Mathlib.Omega.{arith}
+use lib.ListN.{length}
+use Rattle.rules.specs.Tests.{ifEq}
+use Rattle.rules.specs.Registers.{registers}
+use Rattle.rules.specs.Work.{Work, begin}
+use Rattle.rules.specs.Links as links
+use Rattle.rules.specs.Step as steps
+use Rattle.rules.specs.Memory.{stores, touched}
+use Rattle.rules.specs.Journal.{boundsBad}
+use Rattle.rules.specs.Calls.{Outcome, refused, memorySizeBad, journalSizeBad, sizeBad, recorded, commitOrRefuse, clear, machineOf, undo, undoLast}
+use Rattle.rules.specs.declared.Machine.{Machine}
+use Rattle.rules.proofs.Tests.{yes-eq, no-eq}
+use Rattle.laws.proofs.Fine.{Fine, Known, fine-begin}
+use Rattle.laws.proofs.FineLinks.{fine-take, fine-give, fine-event}
+use Rattle.laws.proofs.FineStep.{fine-step}
+use Rattle.plan.specs.View.{view}
+use Rattle.plan.specs.declared.Plan.{Plan}
+use Rattle.journal.specs.Checks.{firstBad}
+use Rattle.journal.proofs.Refusing.{passed, fits, bounds-good}
+
+-- the requires of `commit_or_refuse`
+pub ready :
+    (badChannel : Bool) (m : Machine) (mem j : List ℕ)
+    → firstBad badChannel (length mem) (length j) (m .depth) (m .used) ≡ 0
+    → (p : Plan)
+    → p .answer ≤ 12
+    → p .cut ≤ p .n
+    → p .n ≤ 16
+    → (p .answer ≤ 12) × (p .cut ≤ p .n) × (p .n ≤ 16) × (length mem ≤ 16384) × (length j ≤ 65536) × (boundsBad (length j) (m .depth) (m .used) ≡ false)
+ready badChannel m mem j h p k c n =
+    let f = fits badChannel m mem j h in
+    (k, c, n, f .0, f .1, bounds-good badChannel m mem j h)
+
+-- ---- the outcome of a plan
+
+known-of : (p : Plan) (w : Work) → view p ≡ w → Fine Known w → p .answer ≤ 12
+known-of p w e f = omega (arith, ap (λ (x : Work). x .answer) e, f .known)
+
+module _ (regs : List ℕ) (h : length regs ≡ registers) (p : Plan) where
+  pub step-known : (mem : List ℕ) → view p ≡ steps.step mem (begin regs) → p .answer ≤ 12
+  step-known mem e =
+      known-of p (steps.step mem (begin regs)) e
+      (fine-step mem (λ k a z kind address. omega arith) (λ k a z kind address. omega arith) (λ k a z kind address. omega arith) (λ k a z kind address. omega arith) (fine-begin regs h))
+
+  pub event-known : view p ≡ links.event (begin regs) → p .answer ≤ 12
+  event-known e = known-of p (links.event (begin regs)) e (fine-event (λ k a z kind address. omega arith) (fine-begin regs h))
+
+  pub take-known : (mem : List ℕ) (c : ℕ) → view p ≡ links.take mem c (begin regs) → p .answer ≤ 12
+  take-known mem c e = known-of p (links.take mem c (begin regs)) e (fine-take mem c (λ k a z kind address. omega arith) (fine-begin regs h))
+
+  pub give-known : (mem : List ℕ) (c byte : ℕ) → view p ≡ links.give mem c byte (begin regs) → p .answer ≤ 12
+  give-known mem c byte e =
+      known-of p (links.give mem c byte (begin regs)) e (fine-give mem c byte (λ k a z kind address. omega arith) (fine-begin regs h))
+
+module _ (m : Machine) (mem j : List ℕ) (byte : ℕ) (w : Work) where
+  pub commit-or-refuse-refused : (w .answer ≡ 0 → ⊥) → refused (w .answer) m mem j ≡ commitOrRefuse m mem j byte w
+  unfolding commitOrRefuse
+  commit-or-refuse-refused h = rw (no-eq h)
+
+  pub commit-or-refuse-done :
+      w .answer ≡ 0
+      → recorded m mem j byte (w .regs) (touched (length mem) (w .stored)) (stores mem (w .stored)) ≡ commitOrRefuse m mem j byte w
+  unfolding commitOrRefuse
+  commit-or-refuse-done h = rw (yes-eq h)
+
+-- ---- undo and clear
+
+module _ (m : Machine) (mem j : List ℕ) where
+  pub undo-none : firstBad false (length mem) (length j) (m .depth) (m .used) ≡ 0 → m .depth ≡ 0 → refused 5 m mem j ≡ undo m mem j
+  unfolding undo
+  undo-none h e = rw (← passed false m mem j h (ifEq (m .depth) 0 (refused 5 m mem j) (undoLast m mem j)), yes-eq e)
+
+  pub undo-some :
+      firstBad false (length mem) (length j) (m .depth) (m .used) ≡ 0 → (m .depth ≡ 0 → ⊥) → undoLast m mem j ≡ undo m mem j
+  unfolding undo
+  undo-some h e = rw (← passed false m mem j h (ifEq (m .depth) 0 (refused 5 m mem j) (undoLast m mem j)), no-eq e)
+
+  pub clear-refused : memorySizeBad (length mem) || journalSizeBad (length j) ≡ true → refused 1 m mem j ≡ clear m mem j
+  unfolding clear sizeBad
+  clear-refused h = rw h
+
+  pub clear-done :
+      memorySizeBad (length mem) || journalSizeBad (length j) ≡ false
+      → _≡_ {A = Outcome} (record { answer = 0; byte = 0; machine = machineOf (m .regs) 0 0; memory = mem; journal = j }) (clear m mem j)
+  unfolding clear sizeBad
+  clear-done h = rw h

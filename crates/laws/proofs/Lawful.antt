@@ -1,0 +1,251 @@
+-- THE TWO LAWS of the definitions. First: work stays fine, so the registers stay 45 and the first refusal stays. Second: in a memory, and in that memory with
+-- words appended, the results are alike. This file proves both laws of put, refuse, load, store and move; each chapter composes these.
+use mathlib.Core.Path.{_≡_, refl, sym, subst, _∙_}
+use mathlib.Core.Bool.{Bool, true, false}
+use mathlib.Core.List.{List, _++_}
+use Prim.Native.Nat.{ℕ, zero, suc, _+_, _*_, _^_, _≤_, _<_}
+use native.Mathlib.Omega.{arith}
+use lib.Dec.{ltb, leb, eqb}
+use lib.ListN.{length, length-append}
+use Rattle.rules.specs.Tests.{pick, ifLt, ifLe, ifEq}
+use Rattle.rules.specs.Words.{index, offset, selector, atByte, atWord, byteOf, withByte}
+use Rattle.rules.specs.Registers.{registers}
+use Rattle.rules.specs.Memory.{Store, word, bytes}
+use Rattle.rules.specs.Work.{Work, put, raise, lower, gotoSNP, putCore, putSystem, putBoth, outside, stop, kindFetch, kindLoad, kindStore, refuse, append, attempted, wordAt, byteAt, access, fetchByte, readWord, storeWord, storeByte, rIndexWord, rIndexByte, wIndexWord, moveOutside, moveOrRefuse, transfer}
+use Rattle.rules.specs.declared.Core.{Core}
+use Rattle.rules.specs.declared.Attempt.{Attempt}
+use Rattle.rules.specs.declared.Both.{Both}
+use Rattle.rules.proofs.Tests.{yes-lt, no-lt, yes-eq, no-eq, cases-lt, cases-eq}
+use Rattle.laws.specs.Alike.{StoreInside, Unrefused, Alike, beyond, refused, same}
+use Rattle.laws.proofs.Fine.{Fine, Turns, AnswerIs, never-turns, refused-with, fine-outside, fine-put, fine-putCore, fine-putSystem, fine-refuse, fine-append, fine-access, fine-transfer}
+use Rattle.laws.proofs.Calm.{any-fine, inside-same}
+use Rattle.laws.proofs.Appended.{word-appended, inside-snoc}
+
+-- `Lawful A w f`: the definition that makes f mem of w, in the memory mem, keeps both laws. A are the numbers, other than 10, that it may refuse with
+pub record Lawful (A : ℕ → Type 0) (w : Work) (f : List ℕ → Work) : Type 1 where
+  pub keeps : (P : ℕ → ℕ → ℕ → Type 0) → ((n : ℕ) → A n → Turns P n) → (mem : List ℕ) → Fine P w → Fine P (f mem)
+  pub alike : (m x : List ℕ) → length m < 2 ^ 30 → Unrefused (length m) w → Alike (length m) (f m) (f (m ++ x))
+
+-- keep both laws from any work
+abbrev pub Law : (ℕ → Type 0) → (List ℕ → Work → Work) → Type 1
+Law A h = (w : Work) → Lawful A w (λ mem. h mem w)
+
+-- apply the first law to one property of the answer
+pub kept : {P : ℕ → ℕ → ℕ → Type 0} {h : List ℕ → Work → Work} → Law (Turns P) h → (m : List ℕ) {w : Work} → Fine P w → Fine P (h m w)
+kept {P} l m {w} f = l w .keeps P (λ n t. t) m f
+
+module _ {A : ℕ → Type 0} where
+  -- ---- one after the other
+
+  stays : {h : List ℕ → Work → Work} → Law A h → (mem : List ℕ) (w : Work) → (w .answer ≡ 0 → ⊥) → length (w .regs) ≡ registers
+      → Fine (AnswerIs (w .answer) (w .kind) (w .address)) (h mem w)
+  stays l mem w n c =
+      let t = never-turns (w .answer) (w .kind) (w .address) n in
+      l w .keeps (AnswerIs _ _ _) (λ k z. t k) mem (record { count = c; known = (refl, refl, refl); ten = t outside })
+
+  -- lift the second law from the same work to works that are alike
+  lift : {h : List ℕ → Work → Work} → Law A h → (m x : List ℕ) → length m < 2 ^ 30 → {w w′ : Work} → Alike (length m) w w′ → Alike (length m) (h m w) (h (m ++ x) w′)
+  lift l m x small {w} {w′} (beyond e c t) =
+      let f = stays l m w (λ z. omega (arith, z, e)) c in
+      beyond (f .known .0 ∙ e) (f .count) (record { least = rw (f .known .1) (t .least); most = rw (f .known .1) (t .most); away = rw (f .known .2) (t .away) })
+  lift l m x small {w} {w′} (refused n o e c c′) =
+      let f = stays l m w n c in
+      let f′ = stays l (m ++ x) w′ (λ z. n (e ∙ z)) c′ in
+      refused (λ z. n (sym (f .known .0) ∙ z)) (λ z. o (sym (f .known .0) ∙ z)) (f .known .0 ∙ e ∙ sym (f′ .known .0)) (f .count) (f′ .count)
+  lift {h} l m x small {w} (same e u) = subst (λ (v : Work). Alike (length m) (h m w) (h (m ++ x) v)) e (l w .alike m x small u)
+
+  infixl 5 _then_
+  pub _then_ : {w : Work} {f : List ℕ → Work} {h : List ℕ → Work → Work} → Lawful A w f → Law A h → Lawful A w (λ mem. h mem (f mem))
+  _then_ {f = f} g l =
+      record { keeps = λ P t mem z. l (f mem) .keeps P t mem (g .keeps P t mem z); alike = λ m x small u. lift l m x small (g .alike m x small u) }
+
+  pub unchanged : {w : Work} → Lawful A w (λ mem. w)
+  unchanged = record { keeps = λ P t mem z. z; alike = λ m x small u. same refl u }
+
+  -- ---- tests of registers and of loaded values
+
+  pub lawful-pick : (t : Bool) {w : Work} {f g : List ℕ → Work} → Lawful A w f → Lawful A w g → Lawful A w (λ mem. pick t (f mem) (g mem))
+  lawful-pick true p q = p
+  lawful-pick false p q = q
+
+  pub lawful-lt : (i j : ℕ) {w : Work} {f g : List ℕ → Work} → Lawful A w f → Lawful A w g → Lawful A w (λ mem. ifLt i j (f mem) (g mem))
+  unfolding ifLt
+  lawful-lt i j p q = lawful-pick (ltb i j) p q
+
+  pub lawful-le : (i j : ℕ) {w : Work} {f g : List ℕ → Work} → Lawful A w f → Lawful A w g → Lawful A w (λ mem. ifLe i j (f mem) (g mem))
+  unfolding ifLe
+  lawful-le i j p q = lawful-pick (leb i j) p q
+
+  pub lawful-eq : (i j : ℕ) {w : Work} {f g : List ℕ → Work} → Lawful A w f → Lawful A w g → Lawful A w (λ mem. ifEq i j (f mem) (g mem))
+  unfolding ifEq
+  lawful-eq i j p q = lawful-pick (eqb i j) p q
+
+  -- ---- registers
+
+  -- change registers alone
+  on-registers : (g : Work → Work) → ((P : ℕ → ℕ → ℕ → Type 0) (w : Work) → Fine P w → Fine P (g w))
+      → ((w : Work) → g w .answer ≡ w .answer) → ((w : Work) → g w .stored ≡ w .stored) → Law A (λ mem. g)
+  on-registers g s e f w =
+      record {
+        keeps = λ P t mem z. s P w z;
+        alike = λ m x small u. same refl (record { none = e w ∙ u .none; inside = rw (f w) (u .inside); count = s _ w (any-fine w (u .count)) .count });
+      }
+
+  pub lawful-put : (k v : ℕ) → Law A (λ mem. put k v)
+  unfolding put
+  lawful-put k v = on-registers (put k v) (λ P w z. fine-put k v z) (λ w. refl) (λ w. refl)
+
+  pub lawful-raise : (k mask : ℕ) → Law A (λ mem. raise k mask)
+  unfolding raise
+  lawful-raise k mask w = lawful-put _ _ w
+
+  pub lawful-lower : (k mask : ℕ) → Law A (λ mem. lower k mask)
+  unfolding lower
+  lawful-lower k mask w = lawful-put _ _ w
+
+  pub lawful-gotoSNP : Law A (λ mem. gotoSNP)
+  unfolding gotoSNP
+  lawful-gotoSNP w = lawful-raise _ _ w
+
+  pub lawful-putCore : (c : Core) → Law A (λ mem. putCore c)
+  unfolding putCore
+  lawful-putCore c = on-registers (putCore c) (λ P w z. fine-putCore c z) (λ w. refl) (λ w. refl)
+
+  pub lawful-putBoth : (b : Both) → Law A (λ mem. putBoth b)
+  unfolding putBoth putSystem
+  lawful-putBoth b w = lawful-putCore _ w then on-registers (putSystem (b .system)) (λ P w z. fine-putSystem (b .system) z) (λ w. refl) (λ w. refl)
+
+  -- ---- refusals other than 10
+
+  pub lawful-refuse : (number : ℕ) → A number → (number ≡ 0 → ⊥) × (number ≡ outside → ⊥) → Law A (λ mem. refuse number)
+  lawful-refuse number allowed n w =
+      record {
+        keeps = λ P t mem f. fine-refuse number (t number allowed) f;
+        alike = λ m x small u. rw (refused-with number 0 0 w (u .none)) (refused (n .0) (n .1) refl (u .count) (u .count));
+      }
+
+  pub lawful-stop : A stop → Law A (λ mem. refuse stop)
+  lawful-stop s = lawful-refuse stop s (omega arith)
+
+  pub lawful-attempted : (a : Attempt) → A stop → Law A (λ mem. attempted a)
+  unfolding attempted
+  lawful-attempted a s w = lawful-pick (a .stops) (lawful-stop s w) (lawful-putCore _ w)
+
+-- ---- accesses
+
+pub longer : (m x : List ℕ) (i : ℕ) → i < length m → i < length (m ++ x)
+longer m x i h = omega (arith, length-append m x)
+
+pub same-word : (m x : List ℕ) (a : ℕ) (w : Work) → Unrefused (length m) w → index a < length m → wordAt (m ++ x) a w ≡ wordAt m a w
+unfolding wordAt
+same-word m x a w u h = word-appended m x (w .stored) (index a) (u .inside) h
+
+-- append a store that is inside memory
+alike-append : {size : ℕ} (s : Store) → StoreInside size s → (w : Work) → Unrefused size w → Alike size (append s w) (append s w)
+unfolding append
+alike-append {size} s i w u =
+    rw (yes-eq (u .none)) (same refl (record { none = u .none; inside = inside-snoc size (w .stored) s (u .inside) i; count = u .count }))
+
+-- answer 10 for an access outside memory
+beyond-with : {size : ℕ} (kind a : ℕ) → kindFetch ≤ kind → kind ≤ kindStore → size ≤ index a → {v v′ : Work} → Fine (AnswerIs outside kind a) v → Alike size v v′
+beyond-with kind a low high h f =
+    beyond (f .known .0) (f .count) (record { least = rw (f .known .1) low; most = rw (f .known .1) high; away = rw (f .known .2) h })
+
+module _ {A : ℕ → Type 0} where
+  -- access a, then do g: g needs the second law only where a is inside memory
+  access-then : (kind a : ℕ) → kindFetch ≤ kind → kind ≤ kindStore → (w : Work) (g : List ℕ → Work → Work)
+      → ((P : ℕ → ℕ → ℕ → Type 0) → ((n : ℕ) → A n → Turns P n) → (mem : List ℕ) (v : Work) → Fine P v → Fine P (g mem v))
+      → ((m x : List ℕ) → length m < 2 ^ 30 → Unrefused (length m) w → index a < length m → Alike (length m) (g m w) (g (m ++ x) w))
+      → Lawful A w (λ mem. g mem (access mem kind a w))
+  access-then kind a low high w g k one =
+      record {
+        keeps = λ P t mem f. k P t mem _ (fine-access mem kind a f);
+        alike = λ m x small u.
+            cases-lt (index a) (length m)
+            (λ h. rw (inside-same m kind a w h, inside-same (m ++ x) kind a w (longer m x (index a) h)) (one m x small u h))
+            (λ h. beyond-with kind a low high h (k _ (λ n z. never-turns outside kind a (λ z. omega (arith, z)) n) m _ (fine-outside m kind a w (u .count) (u .none) h)));
+      }
+
+  -- access a, then do next with a value of the word there
+  on-access : (kind a : ℕ) → kindFetch ≤ kind → kind ≤ kindStore → (value : ℕ → ℕ) {next : List ℕ → ℕ → Work → Work} → ((v : ℕ) → Law A (λ mem. next mem v))
+      → (w : Work) → Lawful A w (λ mem. next mem (value (wordAt mem a w)) (access mem kind a w))
+  on-access kind a low high value {next} l w =
+      access-then kind a low high w (λ mem. next mem (value (wordAt mem a w))) (λ P t mem v f. l _ v .keeps P t mem f)
+      (λ m x small u h. rw (same-word m x a w u h) (l (value (wordAt m a w)) w .alike m x small u))
+
+  pub lawful-access : (a : ℕ) → Law A (λ mem. access mem kindLoad a)
+  lawful-access a w = on-access kindLoad a (omega arith) (omega arith) (λ v. v) (λ v u. unchanged) w
+
+  -- load a word, then do next with it
+  pub lawful-read : (a : ℕ) {next : List ℕ → ℕ → Work → Work} → ((v : ℕ) → Law A (λ mem. next mem v)) → Law A (λ mem. readWord mem a (next mem))
+  lawful-read a l w = on-access kindLoad a (omega arith) (omega arith) (λ v. v) l w
+
+  pub lawful-rIndexWord : (base n k : ℕ) → Law A (λ mem. rIndexWord mem base n k)
+  unfolding rIndexWord
+  lawful-rIndexWord base n k w = lawful-read _ (λ v. lawful-put k v) w
+
+  pub lawful-rIndexByte : (base k : ℕ) → Law A (λ mem. rIndexByte mem base k)
+  unfolding rIndexByte byteAt
+  lawful-rIndexByte base k w = on-access kindLoad base (omega arith) (omega arith) (byteOf (selector base)) (λ v. lawful-put k v) w
+
+  pub lawful-fetch : (a : ℕ) {next : List ℕ → ℕ → Work → Work} → ((v : ℕ) → Law A (λ mem. next mem v)) → Law A (λ mem. fetchByte mem a (next mem))
+  unfolding byteAt
+  lawful-fetch a l w = on-access kindFetch a (omega arith) (omega arith) (byteOf (selector a)) l w
+
+  -- store a value of the word that is there
+  on-store : (a : ℕ) (value : ℕ → ℕ) → Law A (λ mem w. append (word (index a) (value (wordAt mem a w))) (access mem kindStore a w))
+  on-store a value w =
+      access-then kindStore a (omega arith) (omega arith) w (λ mem. append (word (index a) (value (wordAt mem a w)))) (λ P t mem v f. fine-append _ f)
+      (λ m x small u h. rw (same-word m x a w u h) (alike-append (word (index a) (value (wordAt m a w))) h w u))
+
+  pub lawful-wIndexWord : (base n v : ℕ) → Law A (λ mem. wIndexWord mem base n v)
+  unfolding wIndexWord storeWord
+  lawful-wIndexWord base n v w = on-store (atWord base n) (λ z. v) w
+
+  pub lawful-storeByte : (a b : ℕ) → Law A (λ mem. storeByte mem a b)
+  unfolding storeByte
+  lawful-storeByte a b w = on-store a (withByte (selector a) b) w
+
+-- ---- moves
+
+module _ (m x : List ℕ) (small : length m < 2 ^ 30) where
+  -- a move has all its bytes inside memory, or has a first access outside
+  data Moves (s d n : ℕ) : Type 0 where
+    fits : moveOutside m s d n ≡ (0, 0) → moveOutside (m ++ x) s d n ≡ (0, 0) → (0 < n → offset s + n ≤ 4 * length m) → (0 < n → offset d + n ≤ 4 * length m) → Moves s d n
+    leaves : kindFetch ≤ moveOutside m s d n .0 → moveOutside m s d n .0 ≤ kindStore → length m ≤ index (moveOutside m s d n .1) → Moves s d n
+
+  next-byte : (a n : ℕ) → index a < length m → (0 < n → offset (atByte a 1) + n ≤ 4 * length m) → offset a + suc n ≤ 4 * length m
+  next-byte a n h f = cases-lt 0 n (λ p. omega (arith, f p)) (λ z. omega arith)
+
+  moves : (s d n : ℕ) → Moves s d n
+  unfolding moveOutside
+  moves s d zero = fits refl refl (λ z. omega (arith, z)) (λ z. omega (arith, z))
+  moves s d (suc n) =
+      cases-lt (index s) (length m)
+      (λ a. cases-lt (index d) (length m)
+      (λ b. on a b (moves (atByte s 1) (atByte d 1) n))
+      (λ b. leaves (rw (yes-lt a, no-lt b) (omega arith)) (rw (yes-lt a, no-lt b) (omega arith)) (rw (yes-lt a, no-lt b) b)))
+      (λ a. leaves (rw (no-lt a) (omega arith)) (rw (no-lt a) (omega arith)) (rw (no-lt a) a))
+    where
+      on : index s < length m → index d < length m → Moves (atByte s 1) (atByte d 1) n → Moves s d (suc n)
+      on a b (fits e e′ p q) =
+          fits (rw (yes-lt a, yes-lt b) e) (rw (yes-lt (longer m x (index s) a), yes-lt (longer m x (index d) b)) e′) (λ z. next-byte s n a p) (λ z. next-byte d n b q)
+      on a b (leaves l h o) = leaves (rw (yes-lt a, yes-lt b) l) (rw (yes-lt a, yes-lt b) h) (rw (yes-lt a, yes-lt b) o)
+
+  alike-transfer : (s d n : ℕ) (w : Work) → Unrefused (length m) w → Alike (length m) (transfer m s d n w) (transfer (m ++ x) s d n w)
+  unfolding transfer moveOrRefuse
+  alike-transfer s d n w u =
+      cases-eq n 0
+      (λ e. rw (yes-eq e, yes-eq e) (same refl u))
+      (λ e. rw (no-eq e, no-eq e) (go e (moves s d n)))
+    where
+      go : (n ≡ 0 → ⊥) → Moves s d n → Alike (length m) (moveOrRefuse m (moveOutside m s d n) s d n w) (moveOrRefuse (m ++ x) (moveOutside (m ++ x) s d n) s d n w)
+      go e (fits h h′ p q) =
+          rw (h, h′, yes-eq {a = 0} {b = 0} refl) (alike-append (bytes (offset s) (offset d) n) (p (omega (arith, e)), q (omega (arith, e))) w u)
+      go e (leaves l h o) =
+          rw (no-eq {a = moveOutside m s d n .0} {b = 0} (λ z. omega (arith, z, l)))
+          (beyond-with _ _ l h o (rw (refused-with outside (moveOutside m s d n .0) (moveOutside m s d n .1) w (u .none))
+          (record { count = u .count; known = (refl, refl, refl); ten = never-turns outside _ _ (λ z. omega (arith, z)) outside })))
+
+pub lawful-transfer : {A : ℕ → Type 0} (s d n : ℕ) → Law A (λ mem. transfer mem s d n)
+lawful-transfer s d n w = record { keeps = λ P t mem f. fine-transfer mem s d n f; alike = λ m x small u. alike-transfer m x small s d n w u }

@@ -1,0 +1,235 @@
+-- Every definition of Timers.antt (timer queues) is lawful; a walk that Stops in a memory Stops in a longer memory, whose budget is larger.
+use mathlib.Core.Path.{_≡_, refl, sym, ap, _∙_}
+use mathlib.Core.Bool.{Bool, true, false}
+use mathlib.Core.List.{List, _++_}
+use Prim.Native.Nat.{ℕ, zero, suc, _+_, _≤_}
+use native.Mathlib.Omega.{arith}
+use borrow.Author.Tests.{lt-leb, ne-eqb}
+use lib.ListN.{length, length-append}
+use lib.Dec.{eqb}
+use Rattle.rules.specs.Tests.{pick, ifEq}
+use Rattle.rules.specs.Words.{atWord, index, later}
+use Rattle.rules.specs.Registers.{areg, breg, creg, clockReg}
+use Rattle.rules.specs.Work.{Work, reg, wptr, priority, outside, stop, kindLoad, refuseAt, refuse, access, wordAt}
+use Rattle.rules.specs.Scheduling.{notProcess, timeS, tlinkS}
+use Rattle.rules.specs.Timers.{nextTime, dropB, timedOut, timerStatus, timerWake, timerNext, timerUnlink, timerFront, timerServe, handleTimerRequest, insertWalk, insertFirstStep, deleteWalk, deleteFirstStep, selectFirst, isThisSelectedProcess, tin, talt, timeNow, taltwtTime, taltwtLink, taltwtState, taltwt, enbtFirst, enbtEarlier, enbtLink, enbtGuard, enbt, distReady, distSet, distLink, dist}
+use Rattle.rules.proofs.Tests.{no-eq, cases-eq}
+use Rattle.laws.specs.Alike.{Unrefused, Alike, beyond, refused, same}
+use Rattle.laws.specs.Ring.{insertEnds, deleteEnds}
+use Rattle.laws.proofs.Fine.{refused-with}
+use Rattle.laws.proofs.Calm.{any-fine}
+use Rattle.laws.proofs.TimerRings.{walk-longer, insert-goes, insert-walk, delete-goes, delete-walk}
+use Rattle.laws.proofs.Lawful.{Law, kept, longer, same-word, _then_, unchanged, lawful-eq, lawful-lower, lawful-pick, lawful-put, lawful-read, lawful-rIndexWord, lawful-stop, lawful-wIndexWord}
+use Rattle.laws.proofs.LawfulScheduling.{lawful-run, lawful-wait}
+use Rattle.laws.proofs.LawfulTimerQueues.{lawful-setNext, lawful-insertWalk, lawful-deleteWalk}
+
+-- ---- a walk with a budget of N + 2 turns, in a memory of N words
+
+-- b is a, if a is not refused
+abbrev More : Work → Work → Type 0
+More a b = a .answer ≡ 0 → b ≡ a
+
+more-pick : (t : Bool) {a b a′ b′ : Work} → More a a′ → More b b′ → More (pick t a b) (pick t a′ b′)
+more-pick true p q = p
+more-pick false p q = q
+
+more-eq : (i j : ℕ) {a b a′ b′ : Work} → More a a′ → More b b′ → More (ifEq i j a b) (ifEq i j a′ b′)
+unfolding ifEq
+more-eq i j p q = more-pick (eqb i j) p q
+
+more-stop : (w v : Work) → More (refuse stop w) v
+unfolding refuseAt
+more-stop w v e = absurd (cases-eq (w .answer) 0 (λ z. omega (arith, ap (λ (u : Work). u .answer) (refused-with stop 0 0 w z), e)) (λ z. z (rw (no-eq z) at e)))
+
+-- no other refusal than 10 or 11
+abbrev Only : ℕ → ℕ → ℕ → Type 0
+Only n k a = (n ≡ 0 → ⊥) → (n ≡ outside → ⊥) → n ≡ stop
+
+module _ (walk : ℕ → List ℕ → Work → Work) (law : (A : ℕ → Type 0) → A stop → (turns : ℕ) → Law A (walk turns))
+    -- more turns do the same, unless the walk is refused
+    (more : (turns turns′ : ℕ) → turns ≤ turns′ → (mem : List ℕ) (w : Work) → More (walk turns mem w) (walk turns′ mem w))
+    -- a walk that Stops does so in a longer memory
+    (ring : (m x : List ℕ) (w : Work) → Unrefused (length m) w → walk (length m + 2) m w .answer ≡ stop → walk (length (m ++ x) + 2) (m ++ x) w .answer ≡ stop) where
+  lawful-budget : {A : ℕ → Type 0} → A stop → Law A (λ mem. walk (length mem + 2) mem)
+  lawful-budget {A} s w =
+      record {
+        keeps = λ P t mem f. law A s (length mem + 2) w .keeps P t mem f;
+        alike = λ m x small u. go m x u (law A s (length m + 2) w .alike m x small u);
+      }
+    where
+      only : (mem : List ℕ) {size : ℕ} → Unrefused size w → Only (walk (length mem + 2) mem w .answer) 0 0
+      only mem u =
+          kept {P = Only} (law _ (λ k a z kind address n o. refl) (length mem + 2)) mem
+          (record { count = u .count; known = λ n o. absurd (n (u .none)); ten = λ k a z kind address n o. absurd (o refl) }) .known
+
+      go : (m x : List ℕ) → Unrefused (length m) w → Alike (length m) (walk (length m + 2) m w) (walk (length m + 2) (m ++ x) w)
+          → Alike (length m) (walk (length m + 2) m w) (walk (length (m ++ x) + 2) (m ++ x) w)
+      go m x u (beyond e c t) = beyond e c t
+      go m x u (refused n o e c c′) =
+          let z = only m u n o in
+          refused n o (z ∙ sym (ring m x w u z)) c (kept (law _ (λ k a z kind address. tt) (length (m ++ x) + 2)) (m ++ x) (any-fine w (u .count)) .count)
+      go m x u (same e v) =
+          same (e ∙ sym (more (length m + 2) (length (m ++ x) + 2) (omega (arith, length-append m x)) (m ++ x) w (ap (λ (y : Work). y .answer) (sym e) ∙ v .none))) v
+
+module _ (time previous : ℕ) where
+  insert-more : (turns turns′ previous : ℕ) → turns ≤ turns′ → (mem : List ℕ) (w : Work) → More (insertWalk mem turns time previous w) (insertWalk mem turns′ time previous w)
+  unfolding insertWalk
+  insert-more zero turns′ previous l mem w = more-stop w _
+  insert-more (suc turns) zero previous l mem w = absurd (omega arith)
+  insert-more (suc turns) (suc turns′) previous l mem w =
+      let p = wordAt mem previous w in
+      more-eq p notProcess (λ e. refl)
+      (more-pick (later time (wordAt mem (atWord p timeS) (access mem kindLoad previous w))) (insert-more turns turns′ (atWord p tlinkS) (omega arith) mem _) (λ e. refl))
+
+  insert-again : (m x : List ℕ) (w : Work) → Unrefused (length m) w
+      → insertWalk m (length m + 2) time previous w .answer ≡ stop → insertWalk (m ++ x) (length (m ++ x) + 2) time previous w .answer ≡ stop
+  unfolding insertEnds
+  insert-again m x w u =
+      walk-longer m x (insert-walk m time w (u .count) (u .none)) (insert-walk (m ++ x) time w (u .count) (u .none)) u
+      (λ p e. let g = insert-goes m time w (u .count) (u .none) p e in
+      rw (ne-eqb p notProcess (g .0), lt-leb (length (m ++ x)) (index (atWord p timeS)) (longer m x _ (g .1)), same-word m x (atWord p timeS) w u (g .1), g .2)
+      (lt-leb (length (m ++ x)) (index (atWord p tlinkS)) (longer m x _ (g .3))))
+      previous
+
+  lawful-insertBudget : {A : ℕ → Type 0} → A stop → Law A (λ mem. insertWalk mem (length mem + 2) time previous)
+  lawful-insertBudget s = lawful-budget (λ turns mem. insertWalk mem turns time previous) (λ A s turns. lawful-insertWalk s turns time previous) (λ turns turns′. insert-more turns turns′ previous) insert-again s
+
+module _ (previous : ℕ) where
+  delete-more : (turns turns′ previous : ℕ) → turns ≤ turns′ → (mem : List ℕ) (w : Work) → More (deleteWalk mem turns previous w) (deleteWalk mem turns′ previous w)
+  unfolding deleteWalk
+  delete-more zero turns′ previous l mem w = more-stop w _
+  delete-more (suc turns) zero previous l mem w = absurd (omega arith)
+  delete-more (suc turns) (suc turns′) previous l mem w = more-eq _ _ (λ e. refl) (delete-more turns turns′ _ (omega arith) mem _)
+
+  delete-again : (m x : List ℕ) (w : Work) → Unrefused (length m) w
+      → deleteWalk m (length m + 2) previous w .answer ≡ stop → deleteWalk (m ++ x) (length (m ++ x) + 2) previous w .answer ≡ stop
+  unfolding deleteEnds
+  delete-again m x w u =
+      walk-longer m x (delete-walk m w (u .count) (u .none)) (delete-walk (m ++ x) w (u .count) (u .none)) u
+      (λ p e. let g = delete-goes m w (u .count) (u .none) p e in
+      rw (ne-eqb p (wptr w) (g .0)) (lt-leb (length (m ++ x)) (index (atWord p tlinkS)) (longer m x _ (g .1))))
+      previous
+
+  lawful-deleteBudget : {A : ℕ → Type 0} → A stop → Law A (λ mem. deleteWalk mem (length mem + 2) previous)
+  lawful-deleteBudget s = lawful-budget (λ turns mem. deleteWalk mem turns previous) (λ A s turns. lawful-deleteWalk s turns previous) (λ turns turns′. delete-more turns turns′ previous) delete-again s
+
+module _ {A : ℕ → Type 0} where
+  pub lawful-nextTime : Law A (λ mem. nextTime)
+  unfolding nextTime
+  lawful-nextTime w = lawful-put _ _ w
+
+  pub lawful-dropB : Law A (λ mem. dropB)
+  unfolding dropB
+  lawful-dropB w = lawful-put _ _ w
+
+  pub lawful-timedOut : (queue front : ℕ) → Law A (λ mem. timedOut mem queue front)
+  unfolding timedOut
+  lawful-timedOut queue front w = lawful-wIndexWord _ _ _ w then lawful-run _
+
+  pub lawful-timerStatus : A stop → (queue front status : ℕ) → Law A (λ mem. timerStatus mem queue front status)
+  unfolding timerStatus
+  lawful-timerStatus s queue front status w = lawful-eq _ _ unchanged (lawful-eq _ _ (lawful-timedOut _ _ w) (lawful-stop s w))
+
+  pub lawful-timerWake : A stop → (queue front : ℕ) → Law A (λ mem. timerWake mem queue front)
+  unfolding timerWake
+  lawful-timerWake s queue front w = lawful-read _ (lawful-timerStatus s _ _) w
+
+  pub lawful-timerNext : (queue second : ℕ) → Law A (λ mem. timerNext mem queue second)
+  unfolding timerNext
+  lawful-timerNext queue second w = lawful-eq _ _ unchanged (lawful-setNext _ _ w)
+
+  pub lawful-timerUnlink : (queue front second : ℕ) → Law A (λ mem. timerUnlink mem queue front second)
+  unfolding timerUnlink
+  lawful-timerUnlink queue front second w = lawful-wIndexWord _ _ _ w then lawful-wIndexWord _ _ _ then lawful-timerNext _ _
+
+  pub lawful-timerFront : A stop → (queue front : ℕ) → Law A (λ mem. timerFront mem queue front)
+  unfolding timerFront
+  lawful-timerFront s queue front w = lawful-read _ (lawful-timerUnlink _ _) w then lawful-timerWake s _ _
+
+  pub lawful-timerServe : A stop → (queue : ℕ) → Law A (λ mem. timerServe mem queue)
+  unfolding timerServe
+  lawful-timerServe s queue w = lawful-read _ (lawful-timerFront s _) w
+
+  pub lawful-handleTimerRequest : A stop → (queue : ℕ) → Law A (λ mem. handleTimerRequest mem queue)
+  unfolding handleTimerRequest
+  lawful-handleTimerRequest s queue w = lawful-lower _ _ w then lawful-timerServe s _
+
+  pub lawful-insertFirstStep : A stop → Law A insertFirstStep
+  unfolding insertFirstStep
+  lawful-insertFirstStep s w = lawful-wIndexWord _ _ _ w then lawful-wIndexWord _ _ _ then lawful-insertBudget _ _ s
+
+  pub lawful-deleteFirstStep : A stop → Law A deleteFirstStep
+  unfolding deleteFirstStep
+  lawful-deleteFirstStep s w = lawful-lower _ _ w then lawful-deleteBudget _ s
+
+  pub lawful-selectFirst : (status : ℕ) → Law A (λ mem. selectFirst mem status)
+  unfolding selectFirst
+  lawful-selectFirst status w = lawful-eq _ _ (lawful-wIndexWord _ _ _ w then lawful-put _ _) (lawful-put _ _ w)
+
+  pub lawful-isThisSelectedProcess : Law A isThisSelectedProcess
+  unfolding isThisSelectedProcess
+  lawful-isThisSelectedProcess w = lawful-read _ lawful-selectFirst w
+
+  pub lawful-tin : A stop → Law A tin
+  unfolding tin
+  lawful-tin s w = lawful-pick (later (reg (clockReg (priority w)) w) (reg areg w)) unchanged (lawful-nextTime w then lawful-insertFirstStep s)
+
+  pub lawful-talt : Law A talt
+  unfolding talt
+  lawful-talt w = lawful-wIndexWord _ _ _ w then lawful-wIndexWord _ _ _
+
+  pub lawful-timeNow : Law A timeNow
+  unfolding timeNow
+  lawful-timeNow w = lawful-wIndexWord _ _ _ w
+
+  pub lawful-taltwtTime : A stop → Law A taltwtTime
+  unfolding taltwtTime
+  lawful-taltwtTime s w = lawful-pick (later (reg (clockReg (priority w)) w) (reg areg w)) (lawful-wIndexWord _ _ _ w then lawful-timeNow) (lawful-nextTime w then lawful-insertFirstStep s)
+
+  pub lawful-taltwtLink : A stop → Law A taltwtLink
+  unfolding taltwtLink
+  lawful-taltwtLink s w = lawful-eq _ _ (lawful-wait w) (lawful-eq _ _ (lawful-rIndexWord _ _ _ w then lawful-taltwtTime s) (lawful-stop s w))
+
+  pub lawful-taltwtState : A stop → Law A taltwtState
+  unfolding taltwtState
+  lawful-taltwtState s w = lawful-eq _ _ (lawful-timeNow w) (lawful-rIndexWord _ _ _ w then lawful-taltwtLink s)
+
+  pub lawful-taltwt : A stop → Law A taltwt
+  unfolding taltwt
+  lawful-taltwt s w = lawful-wIndexWord _ _ _ w then lawful-rIndexWord _ _ _ then lawful-taltwtState s
+
+  pub lawful-enbtFirst : Law A enbtFirst
+  unfolding enbtFirst
+  lawful-enbtFirst w = lawful-wIndexWord _ _ _ w then lawful-wIndexWord _ _ _
+
+  pub lawful-enbtEarlier : (time : ℕ) → Law A (λ mem. enbtEarlier mem time)
+  unfolding enbtEarlier
+  lawful-enbtEarlier time w = lawful-pick (later time (reg breg w)) (lawful-wIndexWord _ _ _ w) unchanged
+
+  pub lawful-enbtLink : A stop → (link : ℕ) → Law A (λ mem. enbtLink mem link)
+  unfolding enbtLink
+  lawful-enbtLink s link w = lawful-eq _ _ (lawful-enbtFirst w) (lawful-eq _ _ (lawful-read _ lawful-enbtEarlier w) (lawful-stop s w))
+
+  pub lawful-enbtGuard : A stop → Law A enbtGuard
+  unfolding enbtGuard
+  lawful-enbtGuard s w = lawful-eq _ _ unchanged (lawful-read _ (lawful-enbtLink s) w)
+
+  pub lawful-enbt : A stop → Law A enbt
+  unfolding enbt
+  lawful-enbt s w = lawful-enbtGuard s w then lawful-dropB
+
+  pub lawful-distReady : (time : ℕ) → Law A (λ mem. distReady mem time)
+  unfolding distReady
+  lawful-distReady time w = lawful-pick (later time (reg creg w)) (lawful-isThisSelectedProcess w) (lawful-put _ _ w)
+
+  pub lawful-distSet : A stop → (link : ℕ) → Law A (λ mem. distSet mem link)
+  unfolding distSet
+  lawful-distSet s link w = lawful-eq _ _ (lawful-read _ lawful-distReady w) (lawful-deleteFirstStep s w then lawful-put _ _)
+
+  pub lawful-distLink : A stop → (link : ℕ) → Law A (λ mem. distLink mem link)
+  unfolding distLink
+  lawful-distLink s link w = lawful-eq _ _ (lawful-put _ _ w) (lawful-distSet s _ w)
+
+  pub lawful-dist : A stop → Law A dist
+  unfolding dist
+  lawful-dist s w = lawful-eq _ _ (lawful-put _ _ w) (lawful-read _ (lawful-distLink s) w)
