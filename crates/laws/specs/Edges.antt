@@ -1,13 +1,13 @@
 -- Definitions where a slip of a program would show. Each row of `edges` runs a definition of `rules` on a small state; its comment says what a
 -- wrong program would give. A function of the code is proved equal to its definition, so no such program is proved. `edges-hold`
 -- (proofs/Edges.antt) proves the table by one computation. The rows stand in the order of the rules' chapters.
-use Prim.Native.Nat.{ℕ, _+_, _*_}
+use Prim.Native.Nat.{ℕ, _+_, _-_, _*_}
 use mathlib.Core.Bool.{Bool, _&&_}
 use mathlib.Core.List.{List, [], _∷_}
 use lib.Dec.{eqb}
 use Rattle.rules.specs.Core.{errorFlag, gotoSNPBit}
 use Rattle.rules.specs.Stack.{nfix, testerr, shl, add}
-use Rattle.rules.specs.Registers.{iptrReg, wdescReg, areg, breg, creg, oreg, statusReg, fptrReg, bptrReg, flagsReg, idleFlag, channelReg, activeBit, enabledBit, heldBit, runRequest, readyRequest}
+use Rattle.rules.specs.Registers.{registers, iptrReg, wdescReg, areg, breg, creg, oreg, statusReg, fptrReg, bptrReg, flagsReg, idleFlag, channelReg, activeBit, enabledBit, heldBit, runRequest, readyRequest}
 use Rattle.rules.specs.Memory.{word, bytes, stores}
 use Rattle.rules.specs.Work.{Work, begin, notReady, storeByte}
 use Rattle.rules.specs.Scheduling.{notProcess, noLowProcess, timeNotSet, memStart, dequeue, resumeOrStart, actOnSNP, endp}
@@ -29,17 +29,17 @@ ldc0 = (0x4, 0)
 
 -- the work of a call at its start: the low process at word 40 runs, with some registers set (DECISIONS 44)
 unfoldable pub before : Settings → Work
-before registers = begin (registersFor ldc0 registers)
+before set = begin (registersFor ldc0 set)
 
 -- the work has an answer, and these registers and words afterwards (DECISIONS 44)
 unfoldable pub ends : List ℕ → ℕ → Settings → Settings → Work → Bool
-ends m number registers words w =
-    eqb (w .answer) number && has (w .regs) registers && has (stores m (w .stored)) words
+ends m number left words w =
+    eqb (w .answer) number && has (w .regs) left && has (stores m (w .stored)) words
 
 -- an action, on a fresh memory of 64 words with some registers and words set, gives an answer and these registers and words (DECISIONS 44)
 unfoldable pub gives : Action → Settings → Settings → ℕ → Settings → Settings → Bool
-gives act registers words number registers′ words′ =
-    ends (memoryFor ldc0 words) number registers′ words′ (act (memoryFor ldc0 words) (before registers))
+gives act set words number left words′ =
+    ends (memoryFor ldc0 words) number left words′ (act (memoryFor ldc0 words) (before set))
 
 -- the table; each row names its source (000 1.2 to 1.11; 01, One step; Links, clocks, slice; The journal; Answers by number)
 unfoldable pub edges : List Bool
@@ -100,9 +100,9 @@ edges =
     ((channelReg 0, runRequest) ∷ (iptrReg, memStart + 1) ∷ (areg, 1) ∷ []) []
     -- word 40 is stored, then word 41 moved over it. A store made again after the move would leave 7 (DECISIONS 44)
     ∷ has (stores (memoryFor ldc0 ((41, 9) ∷ [])) (word 40 7 ∷ bytes (4 * 41) (4 * 40) 4 ∷ [])) ((40, 9) ∷ [])
-    -- a record ends with register 44, then the number of pairs, here 1. One word early, the number would replace register 44
+    -- a record ends with the last register, then the number of pairs, here 1. One word early, the number would replace the last register
     -- (01, The journal)
-    ∷ has (recordOf (memoryFor ldc0 []) (registersFor ldc0 ((44, 9) ∷ [])) (40 ∷ [])) ((46, 9) ∷ (47, 1) ∷ [])
+    ∷ has (recordOf (memoryFor ldc0 []) (registersFor ldc0 ((registers - 1, 9) ∷ [])) (40 ∷ [])) ((registers + 1, 9) ∷ (registers + 2, 1) ∷ [])
     -- undo writes back the word after each index. With the third word after it, words 40 and 41 would be 6 and 0 (01, The journal)
     ∷ has (writeBack (memoryFor ldc0 []) (pairsAt (40 ∷ 5 ∷ 41 ∷ 6 ∷ 0 ∷ 0 ∷ []) 0 2)) ((40, 5) ∷ (41, 6) ∷ [])
     -- channel 4 is no output link. With the bound at 5, channel 4 would be one (01, Answers by number, 3)

@@ -181,7 +181,7 @@ pub const STATUS_INT_SAVE: u32 = 5;
 
 pub const EREG_INT_SAVE: u32 = 6;
 
-// ---- refusals in a plan (01, Answers by number), and the kinds of accesses
+// ---- refusals by number (01, Answers by number), and the kinds of accesses
 
 pub const SIZE: u32 = 1;
 

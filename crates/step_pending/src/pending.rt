@@ -8,7 +8,7 @@ ghost use Rattle.rules.specs.Registers.{tEnabled};
 ghost use Rattle.step_pending.specs.NothingPending as pending;
 
 // Run request and ready request.
-const REQUESTS: u32 = 24;
+const REQUESTS: u32 = RUN_REQUEST + READY_REQUEST;
 
 // Tests that no channel has a request.
 fn no_request(regs: [u32; REGISTERS]) -> bool
@@ -41,10 +41,10 @@ fn nothing_to_serve(regs: [u32; REGISTERS]) -> bool
     ensures { λ r. ⌜ r ≡ pending.nothingToServe regs ⌝ }
 {
     if no_request(regs) {
-        if due(regs, 0, 2) {
+        if due(regs, 0, T_ENABLED_HIGH) {
             return false;
         }
-        return !due(regs, 1, 4);
+        return !due(regs, 1, T_ENABLED_LOW);
     }
     false
 }
@@ -73,7 +73,7 @@ pub fn nothing_pending(regs: [u32; REGISTERS]) -> bool
 pub fn slice_ends(regs: [u32; REGISTERS], s: Core) -> bool
     ensures { λ r. ⌜ r ≡ pending.sliceEnds s regs ⌝ }
 {
-    if s.wdesc & 1 == 0 {
+    if s.wdesc & PRIORITY_MASK == 0 {
         return false;
     }
     if regs[FLAGS_REG] & CLOCKS_RUN == 0 {
