@@ -1,15 +1,16 @@
 // Call, return and alt end (000 1.11).
-use memory::loads::word_at;
-use memory::store::load_word;
+use memory::loads::load_word;
 use memory::store::r_index_word;
 use memory::store::w_index_word;
-use plan::Plan;
+use plan::LOG;
 use plan::operands::adjusted;
 use plan::operands::jump_by;
-use plan::put;
+use rules::REGISTERS;
 use rules::names::*;
 use words::at_word;
 ghost use mathlib.Core.Path.{_≡_};
+ghost use mathlib.Core.List.{List};
+ghost use Prim.Native.Nat.{ℕ};
 ghost use Rattle.plan.specs.View.{view, Room, Grown};
 ghost use Rattle.rules.specs.Data as dataRules;
 
@@ -28,50 +29,52 @@ const FRAME_WORDS: u32 = 4;
 const MINUS_FRAME: u32 = 0xFFFF_FFFC;
 
 // Stores the call frame: C, B, A, then Iptr.
-fn call_frame(w: Plan, mem: &[u32]) -> Plan
-    requires { ⌜ Room 4 w ⌝ }
-    ensures { λ r. ⌜ (view r ≡ dataRules.callFrame (now (mem .entry)) (view w)) × Grown 4 w r ⌝ }
+fn call_frame(regs: &[u32; REGISTERS], log: &mut [u32; LOG], mem: &[u32])
+    requires { ⌜ Room 4 (now log) ⌝ }
+    ensures { λ _. ⌜ (view (now (regs .entry)) (now (log .exit)) ≡ dataRules.callFrame (now (mem .entry)) (view (now (regs .entry)) (now (log .entry)))) × Grown 4 (now (log .entry)) (now (log .exit)) ⌝ }
 {
-    let wptr = w.regs[WDESC_REG] & WPTR_MASK;
-    let p = w_index_word(w, mem, wptr, CREG_PLACE, w.regs[CREG]);
-    let q = w_index_word(p, mem, wptr, BREG_PLACE, w.regs[BREG]);
-    let s = w_index_word(q, mem, wptr, AREG_PLACE, w.regs[AREG]);
-    w_index_word(s, mem, wptr, IPTR_PLACE, w.regs[IPTR_REG])
+    let wptr = regs[WDESC_REG] & WPTR_MASK;
+    w_index_word(log, mem, wptr, CREG_PLACE, regs[CREG]);
+    w_index_word(log, mem, wptr, BREG_PLACE, regs[BREG]);
+    w_index_word(log, mem, wptr, AREG_PLACE, regs[AREG]);
+    w_index_word(log, mem, wptr, IPTR_PLACE, regs[IPTR_REG]);
 }
 
 // Copies the return address to A, moves Wptr below the frame and jumps by Oreg.
-fn entered(w: Plan) -> Plan
-    ensures { λ r. ⌜ (view r ≡ dataRules.entered (view w)) × Grown 0 w r ⌝ }
+fn entered(regs: &mut [u32; REGISTERS])
+    ensures { λ _. ⌜ ((log : List ℕ) → view (now (regs .exit)) log ≡ dataRules.entered (view (now (regs .entry)) log)) ⌝ }
 {
-    let n = w.regs[OREG];
-    jump_by(adjusted(put(w, AREG, w.regs[IPTR_REG]), MINUS_FRAME), n)
+    let n = regs[OREG];
+    regs[AREG] = regs[IPTR_REG];
+    adjusted(regs, MINUS_FRAME);
+    jump_by(regs, n);
 }
 
 // Stores the call frame and enters the procedure (000 1.11, call).
-pub fn call(w: Plan, mem: &[u32]) -> Plan
-    requires { ⌜ Room 4 w ⌝ }
-    ensures { λ r. ⌜ (view r ≡ dataRules.call (now (mem .entry)) (view w)) × Grown 4 w r ⌝ }
+pub fn call(regs: &mut [u32; REGISTERS], log: &mut [u32; LOG], mem: &[u32])
+    requires { ⌜ Room 4 (now log) ⌝ }
+    ensures { λ _. ⌜ (view (now (regs .exit)) (now (log .exit)) ≡ dataRules.call (now (mem .entry)) (view (now (regs .entry)) (now (log .entry)))) × Grown 4 (now (log .entry)) (now (log .exit)) ⌝ }
 {
-    entered(call_frame(w, mem))
+    call_frame(regs, log, mem);
+    entered(regs);
 }
 
 // Loads Iptr from the frame and moves Wptr above the frame (000 1.11, return).
-pub fn ret(w: Plan, mem: &[u32]) -> Plan
-    requires { ⌜ Room 0 w ⌝ }
-    ensures { λ r. ⌜ (view r ≡ dataRules.ret (now (mem .entry)) (view w)) × Grown 0 w r ⌝ }
+pub fn ret(regs: &mut [u32; REGISTERS], log: &mut [u32; LOG], mem: &[u32])
+    requires { ⌜ Room 0 (now log) ⌝ }
+    ensures { λ _. ⌜ (view (now (regs .exit)) (now (log .exit)) ≡ dataRules.ret (now (mem .entry)) (view (now (regs .entry)) (now (log .entry)))) × Grown 0 (now (log .entry)) (now (log .exit)) ⌝ }
 {
-    adjusted(
-        r_index_word(w, mem, w.regs[WDESC_REG] & WPTR_MASK, 0, IPTR_REG),
-        FRAME_WORDS,
-    )
+    let wptr = regs[WDESC_REG] & WPTR_MASK;
+    r_index_word(regs, log, mem, wptr, 0, IPTR_REG);
+    adjusted(regs, FRAME_WORDS);
 }
 
 // Jumps by the offset in local 0, which is that of the selected guard (000 1.11, alt end).
-pub fn altend(w: Plan, mem: &[u32]) -> Plan
-    requires { ⌜ Room 0 w ⌝ }
-    ensures { λ r. ⌜ (view r ≡ dataRules.altend (now (mem .entry)) (view w)) × Grown 0 w r ⌝ }
+pub fn altend(regs: &mut [u32; REGISTERS], log: &mut [u32; LOG], mem: &[u32])
+    requires { ⌜ Room 0 (now log) ⌝ }
+    ensures { λ _. ⌜ (view (now (regs .exit)) (now (log .exit)) ≡ dataRules.altend (now (mem .entry)) (view (now (regs .entry)) (now (log .entry)))) × Grown 0 (now (log .entry)) (now (log .exit)) ⌝ }
 {
-    let a = at_word(w.regs[WDESC_REG] & WPTR_MASK, 0);
-    let n = word_at(w, mem, a);
-    jump_by(load_word(w, mem, a), n)
+    let a = at_word(regs[WDESC_REG] & WPTR_MASK, 0);
+    let n = load_word(log, mem, a);
+    jump_by(regs, n);
 }

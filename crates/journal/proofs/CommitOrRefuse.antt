@@ -18,44 +18,41 @@ use Rattle.rules.proofs.Tests.{yes-eq, no-eq}
 use Rattle.laws.proofs.Fine.{Fine, Known, fine-begin}
 use Rattle.laws.proofs.FineLinks.{fine-take, fine-give, fine-event}
 use Rattle.laws.proofs.FineStep.{fine-step}
-use Rattle.plan.specs.View.{view}
-use Rattle.plan.specs.declared.Plan.{Plan}
+use Rattle.plan.specs.View.{view, answerOf}
 use Rattle.journal.specs.Checks.{firstBad}
 use Rattle.journal.proofs.Refusing.{passed, fits, bounds-good}
 
--- the requires of `commit_or_refuse`
+-- what `commit_or_refuse` requires of memory and journal
 pub ready :
     (badChannel : Bool) (m : Machine) (mem j : List ℕ)
     → firstBad badChannel (length mem) (length j) (m .depth) (m .used) ≡ 0
-    → (p : Plan)
-    → p .answer ≤ 12
-    → p .cut ≤ p .n
-    → p .n ≤ 16
-    → (p .answer ≤ 12) × (p .cut ≤ p .n) × (p .n ≤ 16) × (length mem ≤ 16384) × (length j ≤ 65536) × (boundsBad (length j) (m .depth) (m .used) ≡ false)
-ready badChannel m mem j h p k c n =
+    → (length mem ≤ 16384) × (length j ≤ 65536) × (boundsBad (length j) (m .depth) (m .used) ≡ false)
+ready badChannel m mem j h =
     let f = fits badChannel m mem j h in
-    (k, c, n, f .0, f .1, bounds-good badChannel m mem j h)
+    (f .0, f .1, bounds-good badChannel m mem j h)
 
 -- ---- the outcome of a plan
 
-known-of : (p : Plan) (w : Work) → view p ≡ w → Fine Known w → p .answer ≤ 12
-known-of p w e f = omega (arith, ap (λ (x : Work). x .answer) e, f .known)
+known-of : (regs log : List ℕ) (w : Work) → view regs log ≡ w → Fine Known w → answerOf log ≤ 12
+known-of regs log w e f = omega (arith, ap (λ (x : Work). x .answer) e, f .known)
 
-module _ (regs : List ℕ) (h : length regs ≡ registers) (p : Plan) where
-  pub step-known : (mem : List ℕ) → view p ≡ steps.step mem (begin regs) → p .answer ≤ 12
+-- old are the registers before the call
+module _ (old : List ℕ) (h : length old ≡ registers) (regs log : List ℕ) where
+  pub step-known : (mem : List ℕ) → view regs log ≡ steps.step mem (begin old) → answerOf log ≤ 12
   step-known mem e =
-      known-of p (steps.step mem (begin regs)) e
-      (fine-step mem (λ k a z kind address. omega arith) (λ k a z kind address. omega arith) (λ k a z kind address. omega arith) (λ k a z kind address. omega arith) (fine-begin regs h))
+      known-of regs log (steps.step mem (begin old)) e
+      (fine-step mem (λ k a z kind address. omega arith) (λ k a z kind address. omega arith) (λ k a z kind address. omega arith) (λ k a z kind address. omega arith) (fine-begin old h))
 
-  pub event-known : view p ≡ links.event (begin regs) → p .answer ≤ 12
-  event-known e = known-of p (links.event (begin regs)) e (fine-event (λ k a z kind address. omega arith) (fine-begin regs h))
+  pub event-known : view regs log ≡ links.event (begin old) → answerOf log ≤ 12
+  event-known e = known-of regs log (links.event (begin old)) e (fine-event (λ k a z kind address. omega arith) (fine-begin old h))
 
-  pub take-known : (mem : List ℕ) (c : ℕ) → view p ≡ links.take mem c (begin regs) → p .answer ≤ 12
-  take-known mem c e = known-of p (links.take mem c (begin regs)) e (fine-take mem c (λ k a z kind address. omega arith) (fine-begin regs h))
+  pub take-known : (mem : List ℕ) (c : ℕ) → view regs log ≡ links.take mem c (begin old) → answerOf log ≤ 12
+  take-known mem c e =
+      known-of regs log (links.take mem c (begin old)) e (fine-take mem c (λ k a z kind address. omega arith) (fine-begin old h))
 
-  pub give-known : (mem : List ℕ) (c byte : ℕ) → view p ≡ links.give mem c byte (begin regs) → p .answer ≤ 12
+  pub give-known : (mem : List ℕ) (c byte : ℕ) → view regs log ≡ links.give mem c byte (begin old) → answerOf log ≤ 12
   give-known mem c byte e =
-      known-of p (links.give mem c byte (begin regs)) e (fine-give mem c byte (λ k a z kind address. omega arith) (fine-begin regs h))
+      known-of regs log (links.give mem c byte (begin old)) e (fine-give mem c byte (λ k a z kind address. omega arith) (fine-begin old h))
 
 module _ (m : Machine) (mem j : List ℕ) (byte : ℕ) (w : Work) where
   pub commit-or-refuse-refused : (w .answer ≡ 0 → ⊥) → refused (w .answer) m mem j ≡ commitOrRefuse m mem j byte w

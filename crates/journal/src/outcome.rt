@@ -1,8 +1,10 @@
 // The outcome of a plan after the checks: a refusal by its number, or a commit.
 use crate::checks::refuse;
 use crate::commit;
-use plan::Plan;
+use plan::ANSWER;
+use plan::LOG;
 use rules::Machine;
+use rules::REGISTERS;
 use rules::Reply;
 ghost use mathlib.Core.Path.{_≡_};
 ghost use mathlib.Core.Bool.{false};
@@ -10,21 +12,22 @@ ghost use Prim.Native.Nat.{_≤_};
 ghost use lib.ListN.{length};
 ghost use Rattle.rules.specs.Journal.{boundsBad};
 ghost use Rattle.rules.specs.Calls.{outcomeOf, commitOrRefuse};
-ghost use Rattle.plan.specs.View.{view};
+ghost use Rattle.plan.specs.View.{view, answerOf, Room};
 
 // Refuses a plan that has a refusal, with its number; commits any other.
 pub fn commit_or_refuse(
     m: Machine,
-    p: Plan,
+    regs: &[u32; REGISTERS],
+    log: &[u32; LOG],
     byte: u8,
     mem: &mut [u32],
     journal: &mut [u32],
 ) -> Reply
-    requires { ⌜ (p .answer ≤ 12) × (p .cut ≤ p .n) × (p .n ≤ 16) × (length (now mem) ≤ 16384) × (length (now journal) ≤ 65536) × (boundsBad (length (now journal)) (m .depth) (m .used) ≡ false) ⌝ }
-    ensures { λ r. ⌜ outcomeOf r (now (mem .exit)) (now (journal .exit)) ≡ commitOrRefuse m (now (mem .entry)) (now (journal .entry)) byte (view p) ⌝ }
+    requires { ⌜ (answerOf (now log) ≤ 12) × Room 0 (now log) × (length (now mem) ≤ 16384) × (length (now journal) ≤ 65536) × (boundsBad (length (now journal)) (m .depth) (m .used) ≡ false) ⌝ }
+    ensures { λ r. ⌜ outcomeOf r (now (mem .exit)) (now (journal .exit)) ≡ commitOrRefuse m (now (mem .entry)) (now (journal .entry)) byte (view (now (regs .entry)) (now (log .entry))) ⌝ }
 {
-    if p.answer != 0 {
-        return refuse(m, p.answer);
+    if log[ANSWER] != 0 {
+        return refuse(m, log[ANSWER]);
     }
-    commit::commit(m, p, byte, mem, journal)
+    commit::commit(m, regs, log, byte, mem, journal)
 }

@@ -1,14 +1,22 @@
 // Makes the stores of a plan in program order: single stores, the block move, single stores. Mirrors `stores` of
 // rules/specs/Memory.antt.
 use journal_record::touched;
-use plan::Plan;
+use plan::COUNT;
+use plan::CUT;
+use plan::INDICES;
+use plan::LOG;
+use plan::NUMBER;
+use plan::SOURCE;
+use plan::TARGET;
+use plan::VALUES;
+use plan::whole_log;
 ghost use mathlib.Core.Path.{_≡_};
 ghost use mathlib.Core.List.{_++_};
 ghost use Prim.Native.Nat.{_≤_};
 ghost use lib.ListN.{length, set, take};
 ghost use lib.Seq.{slice};
 ghost use Rattle.rules.specs.Memory.{stores};
-ghost use Rattle.plan.specs.View.{singles, moves, view};
+ghost use Rattle.plan.specs.View.{singles, moves, indicesOf, valuesOf, cutOf, sourceOf, targetOf, countOf, storesOf, Room};
 
 // Stores a word; does nothing outside memory.
 fn put_one(mem: &mut [u32], i: u32, v: u32)
@@ -21,13 +29,14 @@ fn put_one(mem: &mut [u32], i: u32, v: u32)
 }
 
 // Makes the single stores f..t.
-fn put_singles(mem: &mut [u32], ix: [u32; 16], vs: [u32; 16], f: usize, t: usize)
+fn put_singles(mem: &mut [u32], log: &[u32; LOG], f: usize, t: usize)
     requires { ⌜ (f ≤ t) × (t ≤ 16) ⌝ }
-    ensures { λ _. ⌜ now (mem .exit) ≡ stores (now (mem .entry)) (slice f t (singles ix vs)) ⌝ }
+    ensures { λ _. ⌜ now (mem .exit) ≡ stores (now (mem .entry)) (slice f t (singles (indicesOf (now (log .entry))) (valuesOf (now (log .entry))))) ⌝ }
 {
+    whole_log(log);
     let mut k = f;
     while k < t {
-        put_one(mem, ix[k], vs[k]);
+        put_one(mem, log[INDICES + k], log[VALUES + k]);
         k += 1;
     }
 }
@@ -43,23 +52,19 @@ fn put_move(mem: &mut [u32], source: u32, target: u32, n: u32)
 }
 
 // Makes the single stores before the move, and the move.
-fn make_front(mem: &mut [u32], p: Plan)
-    requires { ⌜ (p .cut ≤ 16) × (length (now mem) ≤ 16384) ⌝ }
-    ensures { λ _. ⌜ now (mem .exit) ≡ stores (now (mem .entry)) (take (p .cut) (singles (p .ix) (p .vs)) ++ moves (p .source) (p .target) (p .count)) ⌝ }
+fn make_front(mem: &mut [u32], log: &[u32; LOG])
+    requires { ⌜ (cutOf (now log) ≤ 16) × (length (now mem) ≤ 16384) ⌝ }
+    ensures { λ _. ⌜ now (mem .exit) ≡ stores (now (mem .entry)) (take (cutOf (now (log .entry))) (singles (indicesOf (now (log .entry))) (valuesOf (now (log .entry)))) ++ moves (sourceOf (now (log .entry))) (targetOf (now (log .entry))) (countOf (now (log .entry)))) ⌝ }
 {
-    let ix = p.ix;
-    let vs = p.vs;
-    put_singles(mem, ix, vs, 0, p.cut);
-    put_move(mem, p.source, p.target, p.count);
+    put_singles(mem, log, 0, log[CUT] as usize);
+    put_move(mem, log[SOURCE], log[TARGET], log[COUNT]);
 }
 
 // Makes all stores of a plan.
-pub fn make(mem: &mut [u32], p: Plan)
-    requires { ⌜ (p .cut ≤ p .n) × (p .n ≤ 16) × (length (now mem) ≤ 16384) ⌝ }
-    ensures { λ _. ⌜ now (mem .exit) ≡ stores (now (mem .entry)) (view p .stored) ⌝ }
+pub fn make(mem: &mut [u32], log: &[u32; LOG])
+    requires { ⌜ Room 0 (now log) × (length (now mem) ≤ 16384) ⌝ }
+    ensures { λ _. ⌜ now (mem .exit) ≡ stores (now (mem .entry)) (storesOf (now (log .entry))) ⌝ }
 {
-    let ix = p.ix;
-    let vs = p.vs;
-    make_front(mem, p);
-    put_singles(mem, ix, vs, p.cut, p.n);
+    make_front(mem, log);
+    put_singles(mem, log, log[CUT] as usize, log[NUMBER] as usize);
 }

@@ -1,1 +1,2 @@
 pub mod CommonStep
+pub mod Frame

@@ -1,29 +1,25 @@
--- The stores of a common step: none or one.
-use Prim.Native.Nat.{ℕ, zero, suc, _≤_, _<_}
+-- The stores of a common step: none, one, or the frame of a call.
+use Prim.Native.Nat.{ℕ, _+_, _-_, _^_, _≤_, _<_}
 use mathlib.Core.Path.{_≡_}
 use mathlib.Core.List.{List, [], _∷_}
-use lib.ListN.{length, set}
-use Rattle.rules.specs.Tests.{pick}
-use Rattle.rules.specs.Memory.{Store, word, touched, stores}
+use lib.ListN.{length, getD, take}
+use lib.Seq.{sets}
+use Rattle.rules.specs.Registers.{areg, breg, creg}
+use Rattle.rules.specs.Memory.{touched, stores}
+use Rattle.journal_record.specs.Indices.{range}
+use Rattle.step_fast.specs.Fast.{storesOf}
 use Rattle.step_fast.specs.declared.FastStep.{FastStep}
 
--- the words stored to, by their number: none, or word i (01, The journal; DECISIONS 54)
-unfoldable pub listed : ℕ → ℕ → List ℕ
-listed zero i = []
-listed (suc n) i = i ∷ []
+-- the memory with the first n of v, a, b and c stored in the words from word i on (01, The journal; DECISIONS 54)
+unfoldable pub made : ℕ → ℕ → ℕ → ℕ → ℕ → ℕ → List ℕ → List ℕ
+made n i v a b c m = sets m i (take n (v ∷ a ∷ b ∷ c ∷ []))
 
--- the memory after none or one store (01, The journal; DECISIONS 54)
-unfoldable pub made : ℕ → ℕ → ℕ → List ℕ → List ℕ
-made zero i v m = m
-made (suc n) i v m = set m i v
-
--- the stores of a common step, at most one (DECISIONS 54)
-abbrev pub storesOf : FastStep → List Store
-storesOf t = pick (t .stores) (word (t .index) (t .value) ∷ []) []
-
--- n is the number of words that a common step stores to, of a memory of size words (01, The journal; DECISIONS 54)
+-- n is the number of words that a common step stores to, of a memory of size words: they are the n from its index on, whatever the registers
+-- r before the step (01, The journal; DECISIONS 54)
 pub record Counted (size : ℕ) (t : FastStep) (n : ℕ) : Type 0 where
-  pub few : n ≤ 1
-  pub inside : 0 < n → t .index < size
-  pub touches : listed n (t .index) ≡ touched size (storesOf t)
-  pub makes : (m : List ℕ) → length m ≡ size → made n (t .index) (t .value) m ≡ stores m (storesOf t)
+  pub few : n ≤ 4
+  pub inside : n ≤ size - t .index
+  pub indices : 1 < n → t .index + 3 < 2 ^ 32
+  pub touches : (r : List ℕ) → range (t .index) n ≡ touched size (storesOf r t)
+  pub makes : (r m : List ℕ) → length m ≡ size
+      → made n (t .index) (t .value) (getD r areg 0) (getD r breg 0) (getD r creg 0) m ≡ stores m (storesOf r t)

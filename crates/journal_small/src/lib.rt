@@ -1,4 +1,4 @@
-// Commits a call that makes no plan: a common step (step_fast), whose record has at most one pair, and a tick, which changes
+// Commits a call that makes no plan: a common step (step_fast), whose record has no pair, one or four, and a tick, which changes
 // registers alone. Writes the words that the commit of a plan (journal::commit) would write; mirrors `commitOrRefuse` of
 // rules/specs/Calls.antt.
 use journal_record::bounds::EMPTY_RECORD;
@@ -15,7 +15,7 @@ use step_fast::FastStep;
 ghost use mathlib.Core.Path.{_≡_};
 ghost use mathlib.Core.Bool.{false};
 ghost use mathlib.Core.List.{[], _∷_, _++_};
-ghost use Prim.Native.Nat.{_+_, _*_, _<_, _≤_};
+ghost use Prim.Native.Nat.{_+_, _-_, _*_, _^_, _<_, _≤_};
 ghost use lib.ListN.{length, getD};
 ghost use lib.Seq.{sets};
 ghost use Rattle.rules.specs.Registers.{registers, withCore};
@@ -23,7 +23,11 @@ ghost use Rattle.rules.specs.Work.{begin};
 ghost use Rattle.rules.specs.Journal.{olds, boundsBad};
 ghost use Rattle.rules.specs.Calls.{outcomeOf, commitOrRefuse};
 ghost use Rattle.step_fast.specs.Fast.{fastWork};
-ghost use Rattle.journal_small.specs.Count.{Counted, listed, made};
+ghost use Rattle.journal_record.specs.Indices.{range};
+ghost use Rattle.journal_small.specs.Count.{Counted, made};
+
+// The first index from which a frame would have an index that is no word.
+const FRAME_LIMIT: u32 = 0xFFFF_FFFD;
 
 // Sets registers 0 to 6 to the values of s.
 fn with_core(regs: [u32; REGISTERS], s: Core) -> [u32; REGISTERS]
@@ -61,29 +65,66 @@ fn put_pair(journal: &mut [u32], mem: &[u32], i: u32, at: usize)
     journal[next] = mem[k];
 }
 
-// Counts the words that the step stores to, 0 or 1. A store past the end of memory counts 0.
+// Counts the words that the step stores to: 0, 1 or 4. Words past the end of memory do not count.
 fn count(t: FastStep, size: usize) -> usize
     ensures { λ r. ⌜ Counted size t r ⌝ }
 {
     let stores = t.stores;
-    if stores {
-        if (t.index as usize) < size {
+    let at = t.index as usize;
+    if stores == 0 {
+        return 0;
+    }
+    if at < size {
+        if stores == 1 {
             return 1;
+        }
+        if t.index < FRAME_LIMIT {
+            if size - at < 4 {
+                return size - at;
+            }
+            return 4;
         }
         return 0;
     }
     0
 }
 
-// Writes the pair of word i and stores v there; does nothing where n is 0.
-fn store_recorded(mem: &mut [u32], journal: &mut [u32], n: usize, i: u32, v: u32, at: usize)
-    requires { ⌜ (at + 2 * n ≤ length (now journal)) × (0 < n → i < length (now mem)) ⌝ }
-    ensures { λ _. ⌜ (now (journal .exit) ≡ sets (now (journal .entry)) at (olds (now (mem .entry)) (listed n i))) × (now (mem .exit) ≡ made n i v (now (mem .entry))) ⌝ }
+// Writes the pairs of the n words from word i on.
+fn put_pairs(journal: &mut [u32], mem: &[u32], n: usize, i: u32, at: usize)
+    requires { ⌜ (n ≤ 4) × (at + 2 * n ≤ length (now journal)) × (n ≤ length (now mem) - i) × (1 < n → i + 3 < 2 ^ 32) ⌝ }
+    ensures { λ _. ⌜ now (journal .exit) ≡ sets (now (journal .entry)) at (olds (now (mem .entry)) (range i n)) ⌝ }
+{
+    if 0 < n {
+        put_pair(journal, mem, i, at);
+        if 1 < n {
+            put_pair(journal, mem, i + 1, at + 2);
+            if 2 < n {
+                put_pair(journal, mem, i + 2, at + 4);
+                if 3 < n {
+                    put_pair(journal, mem, i + 3, at + 6);
+                }
+            }
+        }
+    }
+}
+
+// Stores the first n of v, a, b and c in the words from word i on.
+fn store_words(mem: &mut [u32], n: usize, i: u32, v: u32, a: u32, b: u32, c: u32)
+    requires { ⌜ (n ≤ 4) × (n ≤ length (now mem) - i) ⌝ }
+    ensures { λ _. ⌜ now (mem .exit) ≡ made n i v a b c (now (mem .entry)) ⌝ }
 {
     if 0 < n {
         let k = i as usize;
-        put_pair(journal, mem, i, at);
         mem[k] = v;
+        if 1 < n {
+            mem[k + 1] = a;
+            if 2 < n {
+                mem[k + 2] = b;
+                if 3 < n {
+                    mem[k + 3] = c;
+                }
+            }
+        }
     }
 }
 
@@ -99,7 +140,8 @@ pub fn commit_common(m: Machine, t: FastStep, mem: &mut [u32], journal: &mut [u3
     }
     let old = m.regs;
     let at = used + 2 * n;
-    store_recorded(mem, journal, n, t.index, t.value, used);
+    put_pairs(journal, mem, n, t.index, used);
+    store_words(mem, n, t.index, t.value, old[AREG], old[BREG], old[CREG]);
     put_tail(journal, old, n as u32, at);
     let regs = with_core(old, t.core);
     let machine = Machine {

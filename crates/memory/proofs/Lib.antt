@@ -1,4 +1,5 @@
 pub mod Bytes
+pub mod Held
 pub mod Logged
 pub mod Moved
 pub mod Reached

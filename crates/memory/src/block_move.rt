@@ -1,15 +1,16 @@
 // The block move (000 1.10) in one step (01, One step): appended to the plan, or refused at its first access outside memory (DECISIONS 47).
-use plan::Plan;
+use plan::LOG;
+use plan::append_move;
 use plan::refuse_at;
 use rules::names::*;
 use words::at_byte;
 use words::offset;
 ghost use mathlib.Core.Path.{_≡_};
-ghost use Prim.Native.Nat.{_<_};
+ghost use mathlib.Core.List.{List};
+ghost use Prim.Native.Nat.{ℕ};
 ghost use lib.ListN.{length};
-ghost use Rattle.rules.specs.Memory.{bytes};
 ghost use Rattle.rules.specs.Work as work;
-ghost use Rattle.plan.specs.View.{view, Room, Ended};
+ghost use Rattle.plan.specs.View.{view, countOf, Room, Ended};
 ghost use Rattle.memory.specs.Places as places;
 
 // The first access of a move outside memory; kind 0 where all are inside.
@@ -62,34 +63,18 @@ pub fn move_outside(mem: &[u32], source: u32, destination: u32, n: u32) -> First
     }
 }
 
-// Appends the move after the stores so far, unless the plan is refused.
-pub fn append_move(w: Plan, s: u32, d: u32, n: u32) -> Plan
-    requires { ⌜ (0 < n) × Room 0 w × (w .count ≡ 0) ⌝ }
-    ensures { λ r. ⌜ (view r ≡ work.append (bytes s d n) (view w)) × Ended 0 w r ⌝ }
-{
-    if w.answer == 0 {
-        let before = w.n;
-        let mut t = w;
-        t.cut = before;
-        t.source = s;
-        t.target = d;
-        t.count = n;
-        return t;
-    }
-    w
-}
-
 // Moves n bytes, or refuses the first access outside memory; a count of 0 moves nothing.
-pub fn transfer(w: Plan, mem: &[u32], source: u32, destination: u32, n: u32) -> Plan
-    requires { ⌜ Room 0 w × (w .count ≡ 0) ⌝ }
-    ensures { λ r. ⌜ (view r ≡ work.transfer (now (mem .entry)) source destination n (view w)) × Ended 0 w r ⌝ }
+pub fn transfer(log: &mut [u32; LOG], mem: &[u32], source: u32, destination: u32, n: u32)
+    requires { ⌜ Room 0 (now log) × (countOf (now log) ≡ 0) ⌝ }
+    ensures { λ _. ⌜ ((regs : List ℕ) → view regs (now (log .exit)) ≡ work.transfer (now (mem .entry)) source destination n (view regs (now (log .entry)))) × Ended 0 (now (log .entry)) (now (log .exit)) ⌝ }
 {
     if n == 0 {
-        return w;
+        return;
     }
     let first = move_outside(mem, source, destination, n);
     if first.kind == 0 {
-        return append_move(w, offset(source), offset(destination), n);
+        append_move(log, offset(source), offset(destination), n);
+        return;
     }
-    refuse_at(w, OUTSIDE, first.kind, first.address)
+    refuse_at(log, OUTSIDE, first.kind, first.address);
 }

@@ -1,13 +1,13 @@
--- The Work that a plan stands for (view), and how many stores a plan can take or has taken (Room, Grown, Ended).
+-- What a plan stands for: the registers, and a log of 40 words with the stores and the refusal. view is its Work; Room, Grown and Ended say how
+-- many stores a log can take or has taken.
 use Prim.Native.Nat.{ℕ, zero, suc, _+_, _≤_}
 use mathlib.Core.Path.{_≡_}
 use mathlib.Core.List.{List, [], _∷_, _++_}
-use lib.ListN.{take, drop}
+use lib.ListN.{getD, take, drop}
 use Rattle.rules.specs.Memory.{Store, word, bytes}
 use Rattle.rules.specs.Work.{Work}
-use Rattle.plan.specs.declared.Plan.{Plan}
 
--- the arrays ix and vs as stores of single words (DECISIONS 44)
+-- indices and values as stores of single words (DECISIONS 44)
 abbrev pub singles : List ℕ → List ℕ → List Store
 singles [] vs = []
 singles (i ∷ is) [] = []
@@ -23,25 +23,67 @@ unfoldable pub logged : List ℕ → List ℕ → ℕ → ℕ → ℕ → ℕ �
 logged is vs n cut source target count =
     take cut (singles is vs) ++ (moves source target count ++ drop cut (take n (singles is vs)))
 
--- the Work that a plan stands for (DECISIONS 44)
-abbrev pub view : Plan → Work
-view w =
-    record {
-      regs = w .regs;
-      stored = logged (w .ix) (w .vs) (w .n) (w .cut) (w .source) (w .target) (w .count);
-      answer = w .answer;
-      kind = w .kind;
-      address = w .address;
-    }
+-- ---- the words of a log (DECISIONS 44)
 
--- plan w has room for k more single stores: its arrays have 16 places (DECISIONS 44)
-abbrev pub Room : ℕ → Plan → Type 0
-Room k w = (w .cut ≤ w .n) × (w .n + k ≤ 16)
+-- 0: the number of single stores (DECISIONS 44)
+abbrev pub numberOf : List ℕ → ℕ
+numberOf g = getD g 0 0
 
--- r has at most k more single stores than w, and no other move (DECISIONS 44)
-abbrev pub Grown : ℕ → Plan → Plan → Type 0
-Grown k w r = (r .cut ≡ w .cut) × (r .count ≡ w .count) × (w .n ≤ r .n) × (r .n ≤ w .n + k)
+-- 1: how many of them come before the move (DECISIONS 44)
+abbrev pub cutOf : List ℕ → ℕ
+cutOf g = getD g 1 0
 
--- r has at most k more single stores than w, and may have a move that w has not (DECISIONS 44)
-abbrev pub Ended : ℕ → Plan → Plan → Type 0
-Ended k w r = (r .cut ≤ r .n) × (r .n ≤ w .n + k)
+-- 2: the byte of memory from which the move copies (DECISIONS 44)
+abbrev pub sourceOf : List ℕ → ℕ
+sourceOf g = getD g 2 0
+
+-- 3: the byte of memory to which the move copies (DECISIONS 44)
+abbrev pub targetOf : List ℕ → ℕ
+targetOf g = getD g 3 0
+
+-- 4: the number of bytes that the move copies; 0 is no move (DECISIONS 44)
+abbrev pub countOf : List ℕ → ℕ
+countOf g = getD g 4 0
+
+-- 5: the number of the first refusal, or 0 (DECISIONS 44)
+abbrev pub answerOf : List ℕ → ℕ
+answerOf g = getD g 5 0
+
+-- 6: the kind of the refused access, or 0 (DECISIONS 44)
+abbrev pub kindOf : List ℕ → ℕ
+kindOf g = getD g 6 0
+
+-- 7: the byte address of that access, or 0 (DECISIONS 44)
+abbrev pub addressOf : List ℕ → ℕ
+addressOf g = getD g 7 0
+
+-- 8 to 23: the indices of the single stores (DECISIONS 44)
+abbrev pub indicesOf : List ℕ → List ℕ
+indicesOf g = take 16 (drop 8 g)
+
+-- 24 to 39: their values (DECISIONS 44)
+abbrev pub valuesOf : List ℕ → List ℕ
+valuesOf g = drop 24 g
+
+-- the stores of a log in program order (DECISIONS 44)
+unfoldable pub storesOf : List ℕ → List Store
+storesOf g = logged (indicesOf g) (valuesOf g) (numberOf g) (cutOf g) (sourceOf g) (targetOf g) (countOf g)
+
+-- the Work that registers and a log stand for (DECISIONS 44)
+abbrev pub view : List ℕ → List ℕ → Work
+view r g = record { regs = r; stored = storesOf g; answer = answerOf g; kind = kindOf g; address = addressOf g }
+
+-- ---- room
+
+-- the log has room for k more single stores (DECISIONS 44)
+abbrev pub Room : ℕ → List ℕ → Type 0
+Room k g = (cutOf g ≤ numberOf g) × (numberOf g + k ≤ 16)
+
+-- h has at most k more single stores than g, and no other move (DECISIONS 44)
+abbrev pub Grown : ℕ → List ℕ → List ℕ → Type 0
+Grown k g h =
+    (cutOf h ≡ cutOf g) × (countOf h ≡ countOf g) × (numberOf g ≤ numberOf h) × (numberOf h ≤ numberOf g + k)
+
+-- h has at most k more single stores than g, and may have a move that g has not (DECISIONS 44)
+abbrev pub Ended : ℕ → List ℕ → List ℕ → Type 0
+Ended k g h = (cutOf h ≤ numberOf h) × (numberOf h ≤ numberOf g + k)

@@ -1,5 +1,7 @@
 // The plan of a call (DECISIONS 44): registers, stores in program order (single words, at most one block move), first refusal. Memory changes
-// only at the commit. Here are the registers and refusals of a plan (rules/specs/Work.antt); accesses are in the crate memory.
+// only at the commit. A plan is two lent arrays: the registers, and a log of the stores and the refusal. A function takes what it touches: on
+// registers alone it holds for any log, on the log alone for any registers. Here are the registers and refusals of a plan
+// (rules/specs/Work.antt); accesses are in the crate memory.
 pub mod operands; // evaluation stack, Wptr and Iptr of a plan
 
 use rules::Attempt;
@@ -9,181 +11,220 @@ use rules::REGISTERS;
 use rules::System;
 use rules::names::*;
 ghost use mathlib.Core.Path.{_≡_};
-ghost use Prim.Native.Nat.{_<_};
+ghost use mathlib.Core.List.{List};
+ghost use Prim.Native.Nat.{ℕ, _<_};
+ghost use lib.ListN.{length};
+ghost use Rattle.rules.specs.Memory.{word, bytes};
 ghost use Rattle.rules.specs.Work as work;
 ghost use Rattle.rules.specs.Registers as registers;
-ghost use Rattle.plan.specs.View.{view, Grown};
+ghost use Rattle.plan.specs.View.{view, countOf, Room, Grown, Ended};
 
-// ix and vs hold the indices and values of the n single stores. The first cut of them come before the move, the others after it. The move
-// copies count bytes from source to target, both in bytes from the start of memory; count 0 means no move. answer is the number of the first
-// refusal, or 0; kind and address are those of the access that was refused, or 0.
-pub struct Plan {
-    pub regs: [u32; REGISTERS],
-    pub ix: [u32; 16],
-    pub vs: [u32; 16],
-    pub n: usize,
-    pub cut: usize,
-    pub source: u32,
-    pub target: u32,
-    pub count: u32,
-    pub answer: u32,
-    pub kind: u32,
-    pub address: u32,
+// The length of a log.
+pub const LOG: usize = 40;
+
+// The words of a log. NUMBER: how many single stores; the first CUT of them come before the move, the others after it. The move copies COUNT
+// bytes from SOURCE to TARGET, both in bytes from the start of memory; count 0 means no move. ANSWER: the number of the first refusal, or 0;
+// KIND and ADDRESS are those of the access that was refused, or 0. From INDICES on the indices of the single stores, from VALUES on their values.
+pub const NUMBER: usize = 0;
+
+pub const CUT: usize = 1;
+
+pub const SOURCE: usize = 2;
+
+pub const TARGET: usize = 3;
+
+pub const COUNT: usize = 4;
+
+pub const ANSWER: usize = 5;
+
+pub const KIND: usize = 6;
+
+pub const ADDRESS: usize = 7;
+
+pub const INDICES: usize = 8;
+
+pub const VALUES: usize = 24;
+
+// Returns the length of a slice.
+fn length_of(s: &[u32]) -> usize
+    ensures { λ n. ⌜ n ≡ length (now (s .entry)) ⌝ }
+{
+    s.len()
+}
+
+// Does nothing. Tells a proof that a lent log has its length, which no other form tells.
+pub fn whole_log(log: &[u32; LOG])
+    ensures { λ _. ⌜ length (now (log .entry)) ≡ 40 ⌝ }
+{
+    length_of(log);
+}
+
+// Widens a word. Tells a proof that an element of a lent array is below 2^32, which no other form tells.
+pub fn wide(x: u32) -> usize
+    ensures { λ n. ⌜ (n ≡ x) × (n < 4294967296) ⌝ }
+{
+    x as usize
 }
 
 // Starts a plan: no store, no move, no refusal.
-pub fn begin(regs: [u32; REGISTERS]) -> Plan
-    ensures { λ r. ⌜ (view r ≡ work.begin regs) × (r .n ≡ 0) × (r .cut ≡ 0) × (r .count ≡ 0) ⌝ }
+pub fn begin(log: &mut [u32; LOG])
+    ensures { λ _. ⌜ ((regs : List ℕ) → view regs (now (log .exit)) ≡ work.begin regs) × Room 16 (now (log .exit)) × (countOf (now (log .exit)) ≡ 0) ⌝ }
 {
-    Plan {
-        regs,
-        ix: [0; 16],
-        vs: [0; 16],
-        n: 0,
-        cut: 0,
-        source: 0,
-        target: 0,
-        count: 0,
-        answer: 0,
-        kind: 0,
-        address: 0,
-    }
-}
-
-// Sets register k to v.
-pub fn put(w: Plan, k: usize, v: u32) -> Plan
-    requires { ⌜ k < registers.registers ⌝ }
-    ensures { λ r. ⌜ (view r ≡ work.put k v (view w)) × Grown 0 w r ⌝ }
-{
-    let mut t = w;
-    t.regs[k] = v;
-    t
+    whole_log(log);
+    log[NUMBER] = 0;
+    log[CUT] = 0;
+    log[COUNT] = 0;
+    log[ANSWER] = 0;
+    log[KIND] = 0;
+    log[ADDRESS] = 0;
 }
 
 // Sets the bits of mask in register k.
-pub fn raise(w: Plan, k: usize, mask: u32) -> Plan
+pub fn raise(regs: &mut [u32; REGISTERS], k: usize, mask: u32)
     requires { ⌜ k < registers.registers ⌝ }
-    ensures { λ r. ⌜ (view r ≡ work.raise k mask (view w)) × Grown 0 w r ⌝ }
+    ensures { λ _. ⌜ ((log : List ℕ) → view (now (regs .exit)) log ≡ work.raise k mask (view (now (regs .entry)) log)) ⌝ }
 {
-    let x = w.regs[k];
-    put(w, k, x | mask)
+    regs[k] = regs[k] | mask;
 }
 
 // Clears the bits of mask in register k.
-pub fn lower(w: Plan, k: usize, mask: u32) -> Plan
+pub fn lower(regs: &mut [u32; REGISTERS], k: usize, mask: u32)
     requires { ⌜ k < registers.registers ⌝ }
-    ensures { λ r. ⌜ (view r ≡ work.lower k mask (view w)) × Grown 0 w r ⌝ }
+    ensures { λ _. ⌜ ((log : List ℕ) → view (now (regs .exit)) log ≡ work.lower k mask (view (now (regs .entry)) log)) ⌝ }
 {
-    let x = w.regs[k];
-    put(w, k, x & !mask)
+    regs[k] = regs[k] & !mask;
 }
 
 // Sets GotoSNPBit: the step will end with StartNextProcess (000 1.10, Wait).
-pub fn goto_snp(w: Plan) -> Plan
-    ensures { λ r. ⌜ (view r ≡ work.gotoSNP (view w)) × Grown 0 w r ⌝ }
+pub fn goto_snp(regs: &mut [u32; REGISTERS])
+    ensures { λ _. ⌜ ((log : List ℕ) → view (now (regs .exit)) log ≡ work.gotoSNP (view (now (regs .entry)) log)) ⌝ }
 {
-    raise(w, STATUS_REG, GOTO_SNP_BIT)
+    raise(regs, STATUS_REG, GOTO_SNP_BIT);
 }
 
 // Reads registers 0 to 6, on which most operations work.
-pub fn core_of(w: Plan) -> Core
-    ensures { λ r. ⌜ r ≡ registers.coreOf (w .regs) ⌝ }
+pub fn core_of(regs: &[u32; REGISTERS]) -> Core
+    ensures { λ r. ⌜ r ≡ registers.coreOf (now (regs .entry)) ⌝ }
 {
     Core {
-        iptr: w.regs[IPTR_REG],
-        wdesc: w.regs[WDESC_REG],
-        a: w.regs[AREG],
-        b: w.regs[BREG],
-        c: w.regs[CREG],
-        oreg: w.regs[OREG],
-        status: w.regs[STATUS_REG],
+        iptr: regs[IPTR_REG],
+        wdesc: regs[WDESC_REG],
+        a: regs[AREG],
+        b: regs[BREG],
+        c: regs[CREG],
+        oreg: regs[OREG],
+        status: regs[STATUS_REG],
     }
 }
 
 // Writes registers 0 to 6.
-pub fn put_core(w: Plan, s: Core) -> Plan
-    ensures { λ r. ⌜ (view r ≡ work.putCore s (view w)) × Grown 0 w r ⌝ }
+pub fn put_core(regs: &mut [u32; REGISTERS], s: Core)
+    ensures { λ _. ⌜ ((log : List ℕ) → view (now (regs .exit)) log ≡ work.putCore s (view (now (regs .entry)) log)) ⌝ }
 {
-    let mut t = w;
-    t.regs[IPTR_REG] = s.iptr;
-    t.regs[WDESC_REG] = s.wdesc;
-    t.regs[AREG] = s.a;
-    t.regs[BREG] = s.b;
-    t.regs[CREG] = s.c;
-    t.regs[OREG] = s.oreg;
-    t.regs[STATUS_REG] = s.status;
-    t
+    regs[IPTR_REG] = s.iptr;
+    regs[WDESC_REG] = s.wdesc;
+    regs[AREG] = s.a;
+    regs[BREG] = s.b;
+    regs[CREG] = s.c;
+    regs[OREG] = s.oreg;
+    regs[STATUS_REG] = s.status;
 }
 
 // Reads the registers of the run queues and clocks, the prescaler and the flags.
-pub fn system_of(w: Plan) -> System
-    ensures { λ r. ⌜ r ≡ registers.systemOf (w .regs) ⌝ }
+pub fn system_of(regs: &[u32; REGISTERS]) -> System
+    ensures { λ r. ⌜ r ≡ registers.systemOf (now (regs .entry)) ⌝ }
 {
     System {
-        front0: w.regs[FPTR_REG_HIGH],
-        back0: w.regs[BPTR_REG_HIGH],
-        front1: w.regs[FPTR_REG_LOW],
-        back1: w.regs[BPTR_REG_LOW],
-        clock0: w.regs[CLOCK_REG_HIGH],
-        clock1: w.regs[CLOCK_REG_LOW],
-        prescaler: w.regs[PRESCALER_REG],
-        flags: w.regs[FLAGS_REG],
+        front0: regs[FPTR_REG_HIGH],
+        back0: regs[BPTR_REG_HIGH],
+        front1: regs[FPTR_REG_LOW],
+        back1: regs[BPTR_REG_LOW],
+        clock0: regs[CLOCK_REG_HIGH],
+        clock1: regs[CLOCK_REG_LOW],
+        prescaler: regs[PRESCALER_REG],
+        flags: regs[FLAGS_REG],
     }
 }
 
 // Writes the registers that system_of reads.
-pub fn put_system(w: Plan, y: System) -> Plan
-    ensures { λ r. ⌜ (view r ≡ work.putSystem y (view w)) × Grown 0 w r ⌝ }
+pub fn put_system(regs: &mut [u32; REGISTERS], y: System)
+    ensures { λ _. ⌜ ((log : List ℕ) → view (now (regs .exit)) log ≡ work.putSystem y (view (now (regs .entry)) log)) ⌝ }
 {
-    let mut t = w;
-    t.regs[FPTR_REG_HIGH] = y.front0;
-    t.regs[BPTR_REG_HIGH] = y.back0;
-    t.regs[FPTR_REG_LOW] = y.front1;
-    t.regs[BPTR_REG_LOW] = y.back1;
-    t.regs[CLOCK_REG_HIGH] = y.clock0;
-    t.regs[CLOCK_REG_LOW] = y.clock1;
-    t.regs[PRESCALER_REG] = y.prescaler;
-    t.regs[FLAGS_REG] = y.flags;
-    t
+    regs[FPTR_REG_HIGH] = y.front0;
+    regs[BPTR_REG_HIGH] = y.back0;
+    regs[FPTR_REG_LOW] = y.front1;
+    regs[BPTR_REG_LOW] = y.back1;
+    regs[CLOCK_REG_HIGH] = y.clock0;
+    regs[CLOCK_REG_LOW] = y.clock1;
+    regs[PRESCALER_REG] = y.prescaler;
+    regs[FLAGS_REG] = y.flags;
 }
 
 // Writes the registers of Core and of System.
-pub fn put_both(w: Plan, t: Both) -> Plan
-    ensures { λ r. ⌜ (view r ≡ work.putBoth t (view w)) × Grown 0 w r ⌝ }
+pub fn put_both(regs: &mut [u32; REGISTERS], t: Both)
+    ensures { λ _. ⌜ ((log : List ℕ) → view (now (regs .exit)) log ≡ work.putBoth t (view (now (regs .entry)) log)) ⌝ }
 {
     let s = t.core;
     let y = t.system;
-    put_system(put_core(w, s), y)
+    put_core(regs, s);
+    put_system(regs, y);
 }
 
 // Refuses with the kind and address of an access; an earlier refusal stays.
-pub fn refuse_at(w: Plan, number: u32, kind: u32, address: u32) -> Plan
-    ensures { λ r. ⌜ (view r ≡ work.refuseAt number kind address (view w)) × Grown 0 w r ⌝ }
+pub fn refuse_at(log: &mut [u32; LOG], number: u32, kind: u32, address: u32)
+    ensures { λ _. ⌜ ((regs : List ℕ) → view regs (now (log .exit)) ≡ work.refuseAt number kind address (view regs (now (log .entry)))) × Grown 0 (now (log .entry)) (now (log .exit)) ⌝ }
 {
-    if w.answer == 0 {
-        let mut t = w;
-        t.answer = number;
-        t.kind = kind;
-        t.address = address;
-        return t;
+    if log[ANSWER] == 0 {
+        whole_log(log);
+        log[ANSWER] = number;
+        log[KIND] = kind;
+        log[ADDRESS] = address;
     }
-    w
 }
 
 // Refuses without an access.
-pub fn refuse(w: Plan, number: u32) -> Plan
-    ensures { λ r. ⌜ (view r ≡ work.refuse number (view w)) × Grown 0 w r ⌝ }
+pub fn refuse(log: &mut [u32; LOG], number: u32)
+    ensures { λ _. ⌜ ((regs : List ℕ) → view regs (now (log .exit)) ≡ work.refuse number (view regs (now (log .entry)))) × Grown 0 (now (log .entry)) (now (log .exit)) ⌝ }
 {
-    refuse_at(w, number, 0, 0)
+    refuse_at(log, number, 0, 0);
 }
 
 // Writes the registers of an operation, or refuses with STOP where the operation Stops (DECISIONS 26).
-pub fn attempted(w: Plan, t: Attempt) -> Plan
-    ensures { λ r. ⌜ (view r ≡ work.attempted t (view w)) × Grown 0 w r ⌝ }
+pub fn attempted(regs: &mut [u32; REGISTERS], log: &mut [u32; LOG], t: Attempt)
+    ensures { λ _. ⌜ (view (now (regs .exit)) (now (log .exit)) ≡ work.attempted t (view (now (regs .entry)) (now (log .entry)))) × Grown 0 (now (log .entry)) (now (log .exit)) ⌝ }
 {
     if t.stops {
-        return refuse(w, STOP);
+        refuse(log, STOP);
+        return;
     }
     let s = t.core;
-    put_core(w, s)
+    put_core(regs, s);
+}
+
+// Appends a single store, unless the plan is refused.
+pub fn append_word(log: &mut [u32; LOG], i: u32, v: u32)
+    requires { ⌜ Room 1 (now log) ⌝ }
+    ensures { λ _. ⌜ ((regs : List ℕ) → view regs (now (log .exit)) ≡ work.append (word i v) (view regs (now (log .entry)))) × Grown 1 (now (log .entry)) (now (log .exit)) ⌝ }
+{
+    if log[ANSWER] == 0 {
+        whole_log(log);
+        let n = log[NUMBER];
+        log[INDICES + n as usize] = i;
+        log[VALUES + n as usize] = v;
+        log[NUMBER] = n + 1;
+    }
+}
+
+// Appends the move after the stores so far, unless the plan is refused.
+pub fn append_move(log: &mut [u32; LOG], s: u32, d: u32, n: u32)
+    requires { ⌜ (0 < n) × Room 0 (now log) × (countOf (now log) ≡ 0) ⌝ }
+    ensures { λ _. ⌜ ((regs : List ℕ) → view regs (now (log .exit)) ≡ work.append (bytes s d n) (view regs (now (log .entry)))) × Ended 0 (now (log .entry)) (now (log .exit)) ⌝ }
+{
+    if log[ANSWER] == 0 {
+        whole_log(log);
+        log[CUT] = log[NUMBER];
+        log[SOURCE] = s;
+        log[TARGET] = d;
+        log[COUNT] = n;
+    }
 }

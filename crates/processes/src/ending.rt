@@ -1,11 +1,10 @@
 // End process (000 1.11). A points at two words: the Iptr with which the last process goes on, and the count of processes that have not ended.
-use memory::loads::word_at;
-use memory::store::load_word;
+use memory::loads::load_word;
 use memory::store::r_index_word;
 use memory::store::w_index_word;
-use plan::Plan;
+use plan::LOG;
 use plan::goto_snp;
-use plan::put;
+use rules::REGISTERS;
 use rules::names::*;
 use words::at_word;
 use words::wrap_add;
@@ -14,44 +13,44 @@ ghost use Rattle.plan.specs.View.{view, Room, Grown};
 ghost use Rattle.rules.specs.Scheduling as scheduling;
 
 // Goes on after the last process: loads Iptr, and makes A the workspace at the same priority.
-fn end_last(w: Plan, mem: &[u32]) -> Plan
-    requires { ⌜ Room 0 w ⌝ }
-    ensures { λ r. ⌜ (view r ≡ scheduling.endLast (now (mem .entry)) (view w)) × Grown 0 w r ⌝ }
+fn end_last(regs: &mut [u32; REGISTERS], log: &mut [u32; LOG], mem: &[u32])
+    requires { ⌜ Room 0 (now log) ⌝ }
+    ensures { λ _. ⌜ (view (now (regs .exit)) (now (log .exit)) ≡ scheduling.endLast (now (mem .entry)) (view (now (regs .entry)) (now (log .entry)))) × Grown 0 (now (log .entry)) (now (log .exit)) ⌝ }
 {
-    let wdesc = w.regs[AREG] | (w.regs[WDESC_REG] & PRIORITY_MASK);
-    put(
-        r_index_word(w, mem, w.regs[AREG], 0, IPTR_REG),
-        WDESC_REG,
-        wdesc,
-    )
+    let wdesc = regs[AREG] | (regs[WDESC_REG] & PRIORITY_MASK);
+    let a = regs[AREG];
+    r_index_word(regs, log, mem, a, 0, IPTR_REG);
+    regs[WDESC_REG] = wdesc;
 }
 
 // Stores the count less 1, wrapping (DECISIONS 7), and sets GotoSNPBit.
-fn end_one(w: Plan, mem: &[u32], count: u32) -> Plan
-    requires { ⌜ Room 1 w ⌝ }
-    ensures { λ r. ⌜ (view r ≡ scheduling.endOne (now (mem .entry)) count (view w)) × Grown 1 w r ⌝ }
+fn end_one(regs: &mut [u32; REGISTERS], log: &mut [u32; LOG], mem: &[u32], count: u32)
+    requires { ⌜ Room 1 (now log) ⌝ }
+    ensures { λ _. ⌜ (view (now (regs .exit)) (now (log .exit)) ≡ scheduling.endOne (now (mem .entry)) count (view (now (regs .entry)) (now (log .entry)))) × Grown 1 (now (log .entry)) (now (log .exit)) ⌝ }
 {
     let left = wrap_add(count, MINUS_ONE);
-    goto_snp(w_index_word(w, mem, w.regs[AREG], 1, left))
+    w_index_word(log, mem, regs[AREG], 1, left);
+    goto_snp(regs);
 }
 
 // Decides by the count whether the process is the last.
-fn end_counted(w: Plan, mem: &[u32], count: u32) -> Plan
-    requires { ⌜ Room 1 w ⌝ }
-    ensures { λ r. ⌜ (view r ≡ scheduling.endCounted (now (mem .entry)) count (view w)) × Grown 1 w r ⌝ }
+fn end_counted(regs: &mut [u32; REGISTERS], log: &mut [u32; LOG], mem: &[u32], count: u32)
+    requires { ⌜ Room 1 (now log) ⌝ }
+    ensures { λ _. ⌜ (view (now (regs .exit)) (now (log .exit)) ≡ scheduling.endCounted (now (mem .entry)) count (view (now (regs .entry)) (now (log .entry)))) × Grown 1 (now (log .entry)) (now (log .exit)) ⌝ }
 {
     if count == 1 {
-        return end_last(w, mem);
+        end_last(regs, log, mem);
+        return;
     }
-    end_one(w, mem, count)
+    end_one(regs, log, mem, count);
 }
 
 // Ends the process (000 1.11, end process).
-pub fn endp(w: Plan, mem: &[u32]) -> Plan
-    requires { ⌜ Room 1 w ⌝ }
-    ensures { λ r. ⌜ (view r ≡ scheduling.endp (now (mem .entry)) (view w)) × Grown 1 w r ⌝ }
+pub fn endp(regs: &mut [u32; REGISTERS], log: &mut [u32; LOG], mem: &[u32])
+    requires { ⌜ Room 1 (now log) ⌝ }
+    ensures { λ _. ⌜ (view (now (regs .exit)) (now (log .exit)) ≡ scheduling.endp (now (mem .entry)) (view (now (regs .entry)) (now (log .entry)))) × Grown 1 (now (log .entry)) (now (log .exit)) ⌝ }
 {
-    let a = at_word(w.regs[AREG], 1);
-    let count = word_at(w, mem, a);
-    end_counted(load_word(w, mem, a), mem, count)
+    let a = at_word(regs[AREG], 1);
+    let count = load_word(log, mem, a);
+    end_counted(regs, log, mem, count);
 }

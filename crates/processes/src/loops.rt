@@ -3,8 +3,8 @@
 use crate::slices::time_slice;
 use memory::store::r_index_word;
 use memory::store::w_index_word;
-use plan::Plan;
-use plan::put;
+use plan::LOG;
+use rules::REGISTERS;
 use rules::names::*;
 use scheduling::flags::add_to_c;
 use words::positive;
@@ -22,56 +22,60 @@ fn back_by(base: u32, n: u32) -> u32
 }
 
 // Stores the index and moves Iptr back by A bytes.
-fn loop_back(w: Plan, mem: &[u32]) -> Plan
-    requires { ⌜ Room 1 w ⌝ }
-    ensures { λ r. ⌜ (view r ≡ scheduling.loopBack (now (mem .entry)) (view w)) × Grown 1 w r ⌝ }
+fn loop_back(regs: &mut [u32; REGISTERS], log: &mut [u32; LOG], mem: &[u32])
+    requires { ⌜ Room 1 (now log) ⌝ }
+    ensures { λ _. ⌜ (view (now (regs .exit)) (now (log .exit)) ≡ scheduling.loopBack (now (mem .entry)) (view (now (regs .entry)) (now (log .entry)))) × Grown 1 (now (log .entry)) (now (log .exit)) ⌝ }
 {
-    let iptr = back_by(w.regs[IPTR_REG], w.regs[AREG]);
-    put(
-        w_index_word(w, mem, w.regs[BREG], 0, w.regs[CREG]),
-        IPTR_REG,
-        iptr,
-    )
+    let iptr = back_by(regs[IPTR_REG], regs[AREG]);
+    w_index_word(log, mem, regs[BREG], 0, regs[CREG]);
+    regs[IPTR_REG] = iptr;
 }
 
 // Loads the index into C and adds 1.
-fn count_up(w: Plan, mem: &[u32]) -> Plan
-    requires { ⌜ Room 0 w ⌝ }
-    ensures { λ r. ⌜ (view r ≡ scheduling.countUp (now (mem .entry)) (view w)) × Grown 0 w r ⌝ }
+fn count_up(regs: &mut [u32; REGISTERS], log: &mut [u32; LOG], mem: &[u32])
+    requires { ⌜ Room 0 (now log) ⌝ }
+    ensures { λ _. ⌜ (view (now (regs .exit)) (now (log .exit)) ≡ scheduling.countUp (now (mem .entry)) (view (now (regs .entry)) (now (log .entry)))) × Grown 0 (now (log .entry)) (now (log .exit)) ⌝ }
 {
-    add_to_c(r_index_word(w, mem, w.regs[BREG], 0, CREG), 1)
+    let b = regs[BREG];
+    r_index_word(regs, log, mem, b, 0, CREG);
+    add_to_c(regs, 1);
 }
 
 // Repeats the loop where the count in C is above 0.
-fn loop_on(w: Plan, mem: &[u32]) -> Plan
-    requires { ⌜ Room 1 w ⌝ }
-    ensures { λ r. ⌜ (view r ≡ scheduling.loopOn (now (mem .entry)) (view w)) × Grown 1 w r ⌝ }
+fn loop_on(regs: &mut [u32; REGISTERS], log: &mut [u32; LOG], mem: &[u32])
+    requires { ⌜ Room 1 (now log) ⌝ }
+    ensures { λ _. ⌜ (view (now (regs .exit)) (now (log .exit)) ≡ scheduling.loopOn (now (mem .entry)) (view (now (regs .entry)) (now (log .entry)))) × Grown 1 (now (log .entry)) (now (log .exit)) ⌝ }
 {
-    if positive(w.regs[CREG]) {
-        return loop_back(count_up(w, mem), mem);
+    if positive(regs[CREG]) {
+        count_up(regs, log, mem);
+        loop_back(regs, log, mem);
     }
-    w
 }
 
 // Loads the count into C and subtracts 1.
-fn count_down(w: Plan, mem: &[u32]) -> Plan
-    requires { ⌜ Room 0 w ⌝ }
-    ensures { λ r. ⌜ (view r ≡ scheduling.countDown (now (mem .entry)) (view w)) × Grown 0 w r ⌝ }
+fn count_down(regs: &mut [u32; REGISTERS], log: &mut [u32; LOG], mem: &[u32])
+    requires { ⌜ Room 0 (now log) ⌝ }
+    ensures { λ _. ⌜ (view (now (regs .exit)) (now (log .exit)) ≡ scheduling.countDown (now (mem .entry)) (view (now (regs .entry)) (now (log .entry)))) × Grown 0 (now (log .entry)) (now (log .exit)) ⌝ }
 {
-    add_to_c(r_index_word(w, mem, w.regs[BREG], 1, CREG), MINUS_ONE)
+    let b = regs[BREG];
+    r_index_word(regs, log, mem, b, 1, CREG);
+    add_to_c(regs, MINUS_ONE);
 }
 
-fn store_count(w: Plan, mem: &[u32]) -> Plan
-    requires { ⌜ Room 1 w ⌝ }
-    ensures { λ r. ⌜ (view r ≡ scheduling.storeCount (now (mem .entry)) (view w)) × Grown 1 w r ⌝ }
+fn store_count(regs: &[u32; REGISTERS], log: &mut [u32; LOG], mem: &[u32])
+    requires { ⌜ Room 1 (now log) ⌝ }
+    ensures { λ _. ⌜ (view (now (regs .entry)) (now (log .exit)) ≡ scheduling.storeCount (now (mem .entry)) (view (now (regs .entry)) (now (log .entry)))) × Grown 1 (now (log .entry)) (now (log .exit)) ⌝ }
 {
-    w_index_word(w, mem, w.regs[BREG], 1, w.regs[CREG])
+    w_index_word(log, mem, regs[BREG], 1, regs[CREG]);
 }
 
 // Counts a loop down and repeats it, then TimeSlice (000 1.11, loop end).
-pub fn lend(w: Plan, mem: &[u32]) -> Plan
-    requires { ⌜ Room 10 w ⌝ }
-    ensures { λ r. ⌜ (view r ≡ scheduling.lend (now (mem .entry)) (view w)) × Grown 10 w r ⌝ }
+pub fn lend(regs: &mut [u32; REGISTERS], log: &mut [u32; LOG], mem: &[u32])
+    requires { ⌜ Room 10 (now log) ⌝ }
+    ensures { λ _. ⌜ (view (now (regs .exit)) (now (log .exit)) ≡ scheduling.lend (now (mem .entry)) (view (now (regs .entry)) (now (log .entry)))) × Grown 10 (now (log .entry)) (now (log .exit)) ⌝ }
 {
-    time_slice(loop_on(store_count(count_down(w, mem), mem), mem), mem)
+    count_down(regs, log, mem);
+    store_count(regs, log, mem);
+    loop_on(regs, log, mem);
+    time_slice(regs, log, mem);
 }

@@ -1,7 +1,7 @@
 // TimeSlice (000 1.9; 01, Links, clocks, slice; DECISIONS 24), and jump, which ends with TimeSlice.
-use plan::Plan;
+use plan::LOG;
 use plan::goto_snp;
-use plan::put;
+use rules::REGISTERS;
 use rules::names::*;
 use scheduling::running::run;
 use scheduling::stopping::save_iptr;
@@ -11,52 +11,54 @@ ghost use Rattle.plan.specs.View.{view, Room, Grown};
 ghost use Rattle.rules.specs.Scheduling as scheduling;
 
 // Ends the slice (000 1.9): saves Iptr, calls Run on the process and sets GotoSNPBit.
-fn slice_out(w: Plan, mem: &[u32]) -> Plan
-    requires { ⌜ Room 8 w ⌝ }
-    ensures { λ r. ⌜ (view r ≡ scheduling.sliceOut (now (mem .entry)) (view w)) × Grown 8 w r ⌝ }
+fn slice_out(regs: &mut [u32; REGISTERS], log: &mut [u32; LOG], mem: &[u32])
+    requires { ⌜ Room 8 (now log) ⌝ }
+    ensures { λ _. ⌜ (view (now (regs .exit)) (now (log .exit)) ≡ scheduling.sliceOut (now (mem .entry)) (view (now (regs .entry)) (now (log .entry)))) × Grown 8 (now (log .entry)) (now (log .exit)) ⌝ }
 {
-    let wdesc = w.regs[WDESC_REG];
-    goto_snp(run(save_iptr(w, mem), mem, wdesc))
+    let wdesc = regs[WDESC_REG];
+    save_iptr(regs, log, mem);
+    run(regs, log, mem, wdesc);
+    goto_snp(regs);
 }
 
 // Ends a slice of 1,024 ticks or more.
-fn slice_if_long(w: Plan, mem: &[u32]) -> Plan
-    requires { ⌜ Room 8 w ⌝ }
-    ensures { λ r. ⌜ (view r ≡ scheduling.sliceIfLong (now (mem .entry)) (view w)) × Grown 8 w r ⌝ }
+fn slice_if_long(regs: &mut [u32; REGISTERS], log: &mut [u32; LOG], mem: &[u32])
+    requires { ⌜ Room 8 (now log) ⌝ }
+    ensures { λ _. ⌜ (view (now (regs .exit)) (now (log .exit)) ≡ scheduling.sliceIfLong (now (mem .entry)) (view (now (regs .entry)) (now (log .entry)))) × Grown 8 (now (log .entry)) (now (log .exit)) ⌝ }
 {
-    if SLICE_LENGTH <= w.regs[SLICE_REG] {
-        return slice_out(w, mem);
+    if SLICE_LENGTH <= regs[SLICE_REG] {
+        slice_out(regs, log, mem);
     }
-    w
 }
 
 // Ends a slice only while the clocks run.
-fn slice_if_running(w: Plan, mem: &[u32]) -> Plan
-    requires { ⌜ Room 8 w ⌝ }
-    ensures { λ r. ⌜ (view r ≡ scheduling.sliceIfRunning (now (mem .entry)) (view w)) × Grown 8 w r ⌝ }
+fn slice_if_running(regs: &mut [u32; REGISTERS], log: &mut [u32; LOG], mem: &[u32])
+    requires { ⌜ Room 8 (now log) ⌝ }
+    ensures { λ _. ⌜ (view (now (regs .exit)) (now (log .exit)) ≡ scheduling.sliceIfRunning (now (mem .entry)) (view (now (regs .entry)) (now (log .entry)))) × Grown 8 (now (log .entry)) (now (log .exit)) ⌝ }
 {
-    if w.regs[FLAGS_REG] & CLOCKS_RUN == 0 {
-        return w;
+    if regs[FLAGS_REG] & CLOCKS_RUN == 0 {
+        return;
     }
-    slice_if_long(w, mem)
+    slice_if_long(regs, log, mem);
 }
 
 // TimeSlice (000 1.9): ends the slice of a low process that has run for long enough.
-pub fn time_slice(w: Plan, mem: &[u32]) -> Plan
-    requires { ⌜ Room 8 w ⌝ }
-    ensures { λ r. ⌜ (view r ≡ scheduling.timeSlice (now (mem .entry)) (view w)) × Grown 8 w r ⌝ }
+pub fn time_slice(regs: &mut [u32; REGISTERS], log: &mut [u32; LOG], mem: &[u32])
+    requires { ⌜ Room 8 (now log) ⌝ }
+    ensures { λ _. ⌜ (view (now (regs .exit)) (now (log .exit)) ≡ scheduling.timeSlice (now (mem .entry)) (view (now (regs .entry)) (now (log .entry)))) × Grown 8 (now (log .entry)) (now (log .exit)) ⌝ }
 {
-    if w.regs[WDESC_REG] & PRIORITY_MASK == 0 {
-        return w;
+    if regs[WDESC_REG] & PRIORITY_MASK == 0 {
+        return;
     }
-    slice_if_running(w, mem)
+    slice_if_running(regs, log, mem);
 }
 
 // Jumps by Oreg, then TimeSlice (000 1.11, jump).
-pub fn j(w: Plan, mem: &[u32]) -> Plan
-    requires { ⌜ Room 8 w ⌝ }
-    ensures { λ r. ⌜ (view r ≡ scheduling.j (now (mem .entry)) (view w)) × Grown 8 w r ⌝ }
+pub fn j(regs: &mut [u32; REGISTERS], log: &mut [u32; LOG], mem: &[u32])
+    requires { ⌜ Room 8 (now log) ⌝ }
+    ensures { λ _. ⌜ (view (now (regs .exit)) (now (log .exit)) ≡ scheduling.j (now (mem .entry)) (view (now (regs .entry)) (now (log .entry)))) × Grown 8 (now (log .entry)) (now (log .exit)) ⌝ }
 {
-    let iptr = at_byte(w.regs[IPTR_REG], w.regs[OREG]);
-    time_slice(put(w, IPTR_REG, iptr), mem)
+    let iptr = at_byte(regs[IPTR_REG], regs[OREG]);
+    regs[IPTR_REG] = iptr;
+    time_slice(regs, log, mem);
 }

@@ -1,6 +1,7 @@
 // Start process and run process (000 1.11).
 use memory::store::w_index_word;
-use plan::Plan;
+use plan::LOG;
+use rules::REGISTERS;
 use rules::names::*;
 use scheduling::running::run;
 use words::at_byte;
@@ -9,23 +10,21 @@ ghost use Rattle.plan.specs.View.{view, Room, Grown};
 ghost use Rattle.rules.specs.Scheduling as scheduling;
 
 // Starts a process with workspace A at Iptr + B, at the current priority (000 1.11, start process).
-pub fn startp(w: Plan, mem: &[u32]) -> Plan
-    requires { ⌜ Room 8 w ⌝ }
-    ensures { λ r. ⌜ (view r ≡ scheduling.startp (now (mem .entry)) (view w)) × Grown 8 w r ⌝ }
+pub fn startp(regs: &mut [u32; REGISTERS], log: &mut [u32; LOG], mem: &[u32])
+    requires { ⌜ Room 8 (now log) ⌝ }
+    ensures { λ _. ⌜ (view (now (regs .exit)) (now (log .exit)) ≡ scheduling.startp (now (mem .entry)) (view (now (regs .entry)) (now (log .entry)))) × Grown 8 (now (log .entry)) (now (log .exit)) ⌝ }
 {
-    let iptr = at_byte(w.regs[IPTR_REG], w.regs[BREG]);
-    let descriptor = w.regs[AREG] | (w.regs[WDESC_REG] & PRIORITY_MASK);
-    run(
-        w_index_word(w, mem, w.regs[AREG], IPTR_S, iptr),
-        mem,
-        descriptor,
-    )
+    let iptr = at_byte(regs[IPTR_REG], regs[BREG]);
+    let descriptor = regs[AREG] | (regs[WDESC_REG] & PRIORITY_MASK);
+    w_index_word(log, mem, regs[AREG], IPTR_S, iptr);
+    run(regs, log, mem, descriptor);
 }
 
 // Runs the process with descriptor A (000 1.11, run process).
-pub fn runp(w: Plan, mem: &[u32]) -> Plan
-    requires { ⌜ Room 7 w ⌝ }
-    ensures { λ r. ⌜ (view r ≡ scheduling.runp (now (mem .entry)) (view w)) × Grown 7 w r ⌝ }
+pub fn runp(regs: &mut [u32; REGISTERS], log: &mut [u32; LOG], mem: &[u32])
+    requires { ⌜ Room 7 (now log) ⌝ }
+    ensures { λ _. ⌜ (view (now (regs .exit)) (now (log .exit)) ≡ scheduling.runp (now (mem .entry)) (view (now (regs .entry)) (now (log .entry)))) × Grown 7 (now (log .entry)) (now (log .exit)) ⌝ }
 {
-    run(w, mem, w.regs[AREG])
+    let descriptor = regs[AREG];
+    run(regs, log, mem, descriptor);
 }

@@ -2,87 +2,89 @@
 use crate::flags::resumed;
 use memory::store::r_index_word;
 use memory::store::w_index_word;
-use plan::Plan;
+use plan::LOG;
+use rules::REGISTERS;
 use rules::names::*;
 ghost use mathlib.Core.Path.{_≡_};
-ghost use Prim.Native.Nat.{_<_};
+ghost use mathlib.Core.List.{List};
+ghost use Prim.Native.Nat.{ℕ, _<_};
 ghost use Rattle.plan.specs.View.{view, Room, Grown};
 ghost use Rattle.rules.specs.Scheduling as scheduling;
 ghost use Rattle.rules.specs.Registers as registers;
 
 // Stores register k in a word of the save area.
-fn save(w: Plan, mem: &[u32], place: u32, k: usize) -> Plan
-    requires { ⌜ (k < registers.registers) × Room 1 w ⌝ }
-    ensures { λ r. ⌜ (view r ≡ scheduling.save (now (mem .entry)) place k (view w)) × Grown 1 w r ⌝ }
+fn save(regs: &[u32; REGISTERS], log: &mut [u32; LOG], mem: &[u32], place: u32, k: usize)
+    requires { ⌜ (k < registers.registers) × Room 1 (now log) ⌝ }
+    ensures { λ _. ⌜ (view (now (regs .entry)) (now (log .exit)) ≡ scheduling.save (now (mem .entry)) place k (view (now (regs .entry)) (now (log .entry)))) × Grown 1 (now (log .entry)) (now (log .exit)) ⌝ }
 {
-    w_index_word(w, mem, SAVE_BASE, place, w.regs[k])
+    w_index_word(log, mem, SAVE_BASE, place, regs[k]);
 }
 
 // Saves Iptr, A, B, C and Status, if there is a low process.
-fn save_rest(w: Plan, mem: &[u32]) -> Plan
-    requires { ⌜ Room 5 w ⌝ }
-    ensures { λ r. ⌜ (view r ≡ scheduling.saveRest (now (mem .entry)) (view w)) × Grown 5 w r ⌝ }
+fn save_rest(regs: &[u32; REGISTERS], log: &mut [u32; LOG], mem: &[u32])
+    requires { ⌜ Room 5 (now log) ⌝ }
+    ensures { λ _. ⌜ (view (now (regs .entry)) (now (log .exit)) ≡ scheduling.saveRest (now (mem .entry)) (view (now (regs .entry)) (now (log .entry)))) × Grown 5 (now (log .entry)) (now (log .exit)) ⌝ }
 {
-    if w.regs[WDESC_REG] == NO_LOW_PROCESS {
-        return w;
+    if regs[WDESC_REG] == NO_LOW_PROCESS {
+        return;
     }
-    let p = save(w, mem, IPTR_INT_SAVE, IPTR_REG);
-    let q = save(p, mem, AREG_INT_SAVE, AREG);
-    let s = save(q, mem, BREG_INT_SAVE, BREG);
-    let t = save(s, mem, CREG_INT_SAVE, CREG);
-    save(t, mem, STATUS_INT_SAVE, STATUS_REG)
+    save(regs, log, mem, IPTR_INT_SAVE, IPTR_REG);
+    save(regs, log, mem, AREG_INT_SAVE, AREG);
+    save(regs, log, mem, BREG_INT_SAVE, BREG);
+    save(regs, log, mem, CREG_INT_SAVE, CREG);
+    save(regs, log, mem, STATUS_INT_SAVE, STATUS_REG);
 }
 
 // Stores 0 for E, which is no register here, where MoveBit is set (DECISIONS 21).
-fn save_ereg(w: Plan, mem: &[u32], status: u32) -> Plan
-    requires { ⌜ Room 1 w ⌝ }
-    ensures { λ r. ⌜ (view r ≡ scheduling.saveEreg (now (mem .entry)) status (view w)) × Grown 1 w r ⌝ }
+fn save_ereg(log: &mut [u32; LOG], mem: &[u32], status: u32)
+    requires { ⌜ Room 1 (now log) ⌝ }
+    ensures { λ _. ⌜ ((regs : List ℕ) → view regs (now (log .exit)) ≡ scheduling.saveEreg (now (mem .entry)) status (view regs (now (log .entry)))) × Grown 1 (now (log .entry)) (now (log .exit)) ⌝ }
 {
     if status & MOVE_BIT == 0 {
-        return w;
+        return;
     }
-    w_index_word(w, mem, SAVE_BASE, EREG_INT_SAVE, 0)
+    w_index_word(log, mem, SAVE_BASE, EREG_INT_SAVE, 0);
 }
 
 // SaveRegisters (000 1.8): saves the registers; MoveBit of status decides whether E is saved.
-pub fn save_registers(w: Plan, mem: &[u32], status: u32) -> Plan
-    requires { ⌜ Room 7 w ⌝ }
-    ensures { λ r. ⌜ (view r ≡ scheduling.saveRegisters (now (mem .entry)) status (view w)) × Grown 7 w r ⌝ }
+pub fn save_registers(regs: &[u32; REGISTERS], log: &mut [u32; LOG], mem: &[u32], status: u32)
+    requires { ⌜ Room 7 (now log) ⌝ }
+    ensures { λ _. ⌜ (view (now (regs .entry)) (now (log .exit)) ≡ scheduling.saveRegisters (now (mem .entry)) status (view (now (regs .entry)) (now (log .entry)))) × Grown 7 (now (log .entry)) (now (log .exit)) ⌝ }
 {
-    save_ereg(
-        save_rest(save(w, mem, WDESC_INT_SAVE, WDESC_REG), mem),
-        mem,
-        status,
-    )
+    save(regs, log, mem, WDESC_INT_SAVE, WDESC_REG);
+    save_rest(regs, log, mem);
+    save_ereg(log, mem, status);
 }
 
 // Loads register k from a word of the save area.
-fn restore(w: Plan, mem: &[u32], place: u32, k: usize) -> Plan
-    requires { ⌜ (k < registers.registers) × Room 0 w ⌝ }
-    ensures { λ r. ⌜ (view r ≡ scheduling.restore (now (mem .entry)) place k (view w)) × Grown 0 w r ⌝ }
+fn restore(regs: &mut [u32; REGISTERS], log: &mut [u32; LOG], mem: &[u32], place: u32, k: usize)
+    requires { ⌜ (k < registers.registers) × Room 0 (now log) ⌝ }
+    ensures { λ _. ⌜ (view (now (regs .exit)) (now (log .exit)) ≡ scheduling.restore (now (mem .entry)) place k (view (now (regs .entry)) (now (log .entry)))) × Grown 0 (now (log .entry)) (now (log .exit)) ⌝ }
 {
-    r_index_word(w, mem, SAVE_BASE, place, k)
+    r_index_word(regs, log, mem, SAVE_BASE, place, k);
 }
 
 // Restores Iptr, A, B, C and Status, if a low process was saved (DECISIONS 22).
-fn restore_rest(w: Plan, mem: &[u32]) -> Plan
-    requires { ⌜ Room 0 w ⌝ }
-    ensures { λ r. ⌜ (view r ≡ scheduling.restoreRest (now (mem .entry)) (view w)) × Grown 0 w r ⌝ }
+fn restore_rest(regs: &mut [u32; REGISTERS], log: &mut [u32; LOG], mem: &[u32])
+    requires { ⌜ Room 0 (now log) ⌝ }
+    ensures { λ _. ⌜ (view (now (regs .exit)) (now (log .exit)) ≡ scheduling.restoreRest (now (mem .entry)) (view (now (regs .entry)) (now (log .entry)))) × Grown 0 (now (log .entry)) (now (log .exit)) ⌝ }
 {
-    if w.regs[WDESC_REG] == NO_LOW_PROCESS {
-        return w;
+    if regs[WDESC_REG] == NO_LOW_PROCESS {
+        return;
     }
-    let p = restore(w, mem, IPTR_INT_SAVE, IPTR_REG);
-    let q = restore(p, mem, AREG_INT_SAVE, AREG);
-    let s = restore(q, mem, BREG_INT_SAVE, BREG);
-    let t = restore(s, mem, CREG_INT_SAVE, CREG);
-    restore(t, mem, STATUS_INT_SAVE, STATUS_REG)
+    restore(regs, log, mem, IPTR_INT_SAVE, IPTR_REG);
+    restore(regs, log, mem, AREG_INT_SAVE, AREG);
+    restore(regs, log, mem, BREG_INT_SAVE, BREG);
+    restore(regs, log, mem, CREG_INT_SAVE, CREG);
+    restore(regs, log, mem, STATUS_INT_SAVE, STATUS_REG);
 }
 
 // RestoreRegisters (000 1.8): restores the registers, and clears idle where a process resumes. E is not read.
-pub fn restore_registers(w: Plan, mem: &[u32]) -> Plan
-    requires { ⌜ Room 0 w ⌝ }
-    ensures { λ r. ⌜ (view r ≡ scheduling.restoreRegisters (now (mem .entry)) (view w)) × Grown 0 w r ⌝ }
+pub fn restore_registers(regs: &mut [u32; REGISTERS], log: &mut [u32; LOG], mem: &[u32])
+    requires { ⌜ Room 0 (now log) ⌝ }
+    ensures { λ _. ⌜ (view (now (regs .exit)) (now (log .exit)) ≡ scheduling.restoreRegisters (now (mem .entry)) (view (now (regs .entry)) (now (log .entry)))) × Grown 0 (now (log .entry)) (now (log .exit)) ⌝ }
 {
-    resumed(restore_rest(restore(w, mem, WDESC_INT_SAVE, WDESC_REG), mem))
+    restore(regs, log, mem, WDESC_INT_SAVE, WDESC_REG);
+    restore_rest(regs, log, mem);
+    resumed(regs);
 }

@@ -1,131 +1,129 @@
 // One step (01, One step; rules/specs/Step.antt): planned over registers and memory, with the refusals 6, 7 and 9 to 11, then committed
 // or refused.
-use plan::Plan;
+use plan::LOG;
 use rules::Machine;
 use rules::REGISTERS;
 use rules::Reply;
 use rules::names::*;
 ghost use mathlib.Core.Path.{_≡_};
 ghost use mathlib.Core.Bool.{false};
-ghost use Prim.Native.Nat.{_<_, _≤_};
+ghost use mathlib.Core.List.{List};
+ghost use Prim.Native.Nat.{ℕ, _≤_};
 ghost use lib.ListN.{length};
 ghost use Rattle.rules.specs.Work.{begin};
 ghost use Rattle.rules.specs.Step as step;
 ghost use Rattle.rules.specs.Journal.{boundsBad};
 ghost use Rattle.rules.specs.Calls.{outcomeOf, commitOrRefuse};
-ghost use Rattle.plan.specs.View.{view, Room, Grown, Ended};
+ghost use Rattle.plan.specs.View.{view, countOf, Room, Ended};
 
 // Advances Iptr and takes the nibble into Oreg.
-fn fetched(w: Plan, byte: u32) -> Plan
-    ensures { λ r. ⌜ (view r ≡ step.fetched byte (view w)) × Grown 0 w r ⌝ }
+fn fetched(regs: &mut [u32; REGISTERS], byte: u32)
+    ensures { λ _. ⌜ ((log : List ℕ) → view (now (regs .exit)) log ≡ step.fetched byte (view (now (regs .entry)) log)) ⌝ }
 {
-    let o = words::with_nibble(byte, w.regs[OREG]);
-    plan::put(
-        plan::put(w, IPTR_REG, words::at_byte(w.regs[IPTR_REG], 1)),
-        OREG,
-        o,
-    )
+    let operand = words::with_nibble(byte, regs[OREG]);
+    regs[IPTR_REG] = words::at_byte(regs[IPTR_REG], 1);
+    regs[OREG] = operand;
 }
 
 // Does any function but a prefix, and acts on GotoSNP.
-fn execute(w: Plan, mem: &[u32], code: u32) -> Plan
-    requires { ⌜ Room 12 w × (w .count ≡ 0) ⌝ }
-    ensures { λ r. ⌜ (view r ≡ step.execute (now (mem .entry)) code (view w)) × Ended 12 w r ⌝ }
+fn execute(regs: &mut [u32; REGISTERS], log: &mut [u32; LOG], mem: &[u32], code: u32)
+    requires { ⌜ Room 12 (now log) × (countOf (now log) ≡ 0) ⌝ }
+    ensures { λ _. ⌜ (view (now (regs .exit)) (now (log .exit)) ≡ step.execute (now (mem .entry)) code (view (now (regs .entry)) (now (log .entry)))) × Ended 12 (now (log .entry)) (now (log .exit)) ⌝ }
 {
-    scheduling::start_next::act_on_snp(
-        plan::put(step_dispatch::function(w, mem, code), OREG, 0),
-        mem,
-    )
+    step_dispatch::function(regs, log, mem, code);
+    regs[OREG] = 0;
+    scheduling::start_next::act_on_snp(regs, log, mem);
 }
 
-fn decode(w: Plan, mem: &[u32], code: u32) -> Plan
-    requires { ⌜ Room 12 w × (w .count ≡ 0) ⌝ }
-    ensures { λ r. ⌜ (view r ≡ step.decode (now (mem .entry)) code (view w)) × Ended 12 w r ⌝ }
+fn decode(regs: &mut [u32; REGISTERS], log: &mut [u32; LOG], mem: &[u32], code: u32)
+    requires { ⌜ Room 12 (now log) × (countOf (now log) ≡ 0) ⌝ }
+    ensures { λ _. ⌜ (view (now (regs .exit)) (now (log .exit)) ≡ step.decode (now (mem .entry)) code (view (now (regs .entry)) (now (log .entry)))) × Ended 12 (now (log .entry)) (now (log .exit)) ⌝ }
 {
     if code == 2 {
-        return plan::put_core(w, core_ops::stack::pfix(plan::core_of(w)));
+        let t = core_ops::stack::pfix(plan::core_of(regs));
+        plan::put_core(regs, t);
+        return;
     }
     if code == 6 {
-        return plan::put_core(w, core_ops::stack::nfix(plan::core_of(w)));
+        let t = core_ops::stack::nfix(plan::core_of(regs));
+        plan::put_core(regs, t);
+        return;
     }
-    execute(w, mem, code)
+    execute(regs, log, mem, code);
 }
 
 // (c) Fetches one instruction byte and does it.
-fn instruction(w: Plan, mem: &[u32]) -> Plan
-    requires { ⌜ Room 12 w × (w .count ≡ 0) ⌝ }
-    ensures { λ r. ⌜ (view r ≡ step.instruction (now (mem .entry)) (view w)) × Ended 12 w r ⌝ }
+fn instruction(regs: &mut [u32; REGISTERS], log: &mut [u32; LOG], mem: &[u32])
+    requires { ⌜ Room 12 (now log) × (countOf (now log) ≡ 0) ⌝ }
+    ensures { λ _. ⌜ (view (now (regs .exit)) (now (log .exit)) ≡ step.instruction (now (mem .entry)) (view (now (regs .entry)) (now (log .entry)))) × Ended 12 (now (log .entry)) (now (log .exit)) ⌝ }
 {
-    let a = w.regs[IPTR_REG];
-    let b = memory::loads::byte_at(w, mem, a);
-    decode(
-        fetched(memory::access::fetch_byte(w, mem, a), b),
-        mem,
-        b >> 4,
-    )
+    let byte = memory::loads::fetch_byte(log, mem, regs[IPTR_REG]);
+    fetched(regs, byte);
+    decode(regs, log, mem, byte >> 4);
 }
 
-fn instruction_unless_idle(w: Plan, mem: &[u32]) -> Plan
-    requires { ⌜ Room 12 w × (w .count ≡ 0) ⌝ }
-    ensures { λ r. ⌜ (view r ≡ step.instructionUnlessIdle (now (mem .entry)) (view w)) × Ended 12 w r ⌝ }
+fn instruction_unless_idle(regs: &mut [u32; REGISTERS], log: &mut [u32; LOG], mem: &[u32])
+    requires { ⌜ Room 12 (now log) × (countOf (now log) ≡ 0) ⌝ }
+    ensures { λ _. ⌜ (view (now (regs .exit)) (now (log .exit)) ≡ step.instructionUnlessIdle (now (mem .entry)) (view (now (regs .entry)) (now (log .entry)))) × Ended 12 (now (log .entry)) (now (log .exit)) ⌝ }
 {
-    if w.regs[FLAGS_REG] & IDLE_FLAG == 0 {
-        return instruction(w, mem);
+    if regs[FLAGS_REG] & IDLE_FLAG == 0 {
+        instruction(regs, log, mem);
+        return;
     }
-    plan::refuse(w, IDLE)
+    plan::refuse(log, IDLE);
 }
 
 // (b) Serves a timer that is ready.
-fn timers_first(w: Plan, mem: &[u32]) -> Plan
-    requires { ⌜ Room 12 w × (w .count ≡ 0) ⌝ }
-    ensures { λ r. ⌜ (view r ≡ step.timersFirst (now (mem .entry)) (view w)) × Ended 12 w r ⌝ }
+fn timers_first(regs: &mut [u32; REGISTERS], log: &mut [u32; LOG], mem: &[u32])
+    requires { ⌜ Room 12 (now log) × (countOf (now log) ≡ 0) ⌝ }
+    ensures { λ _. ⌜ (view (now (regs .exit)) (now (log .exit)) ≡ step.timersFirst (now (mem .entry)) (view (now (regs .entry)) (now (log .entry)))) × Ended 12 (now (log .entry)) (now (log .exit)) ⌝ }
 {
-    let queue = step_pending::service::ready_timer(w);
+    let queue = step_pending::service::ready_timer(regs);
     if queue < 2 {
-        return scheduling::start_next::act_on_snp(
-            timers::requests::handle_timer_request(w, mem, queue),
-            mem,
-        );
+        timers::requests::handle_timer_request(regs, log, mem, queue);
+        scheduling::start_next::act_on_snp(regs, log, mem);
+        return;
     }
-    instruction_unless_idle(w, mem)
+    instruction_unless_idle(regs, log, mem);
 }
 
 // (a) Serves the lowest channel with a request.
-fn channels_first(w: Plan, mem: &[u32]) -> Plan
-    requires { ⌜ Room 12 w × (w .count ≡ 0) ⌝ }
-    ensures { λ r. ⌜ (view r ≡ step.channelsFirst (now (mem .entry)) (view w)) × Ended 12 w r ⌝ }
+fn channels_first(regs: &mut [u32; REGISTERS], log: &mut [u32; LOG], mem: &[u32])
+    requires { ⌜ Room 12 (now log) × (countOf (now log) ≡ 0) ⌝ }
+    ensures { λ _. ⌜ (view (now (regs .exit)) (now (log .exit)) ≡ step.channelsFirst (now (mem .entry)) (view (now (regs .entry)) (now (log .entry)))) × Ended 12 (now (log .entry)) (now (log .exit)) ⌝ }
 {
-    let c = step_pending::service::requested(w);
+    let c = step_pending::service::requested(regs);
     if c < 9 {
-        return scheduling::start_next::act_on_snp(
-            channels::requests::handle_channel_request(w, mem, c),
-            mem,
-        );
+        channels::requests::handle_channel_request(regs, log, mem, c);
+        scheduling::start_next::act_on_snp(regs, log, mem);
+        return;
     }
-    timers_first(w, mem)
+    timers_first(regs, log, mem);
 }
 
-fn choose(w: Plan, mem: &[u32]) -> Plan
-    requires { ⌜ Room 12 w × (w .count ≡ 0) ⌝ }
-    ensures { λ r. ⌜ (view r ≡ step.choose (now (mem .entry)) (view w)) × Ended 12 w r ⌝ }
+fn choose(regs: &mut [u32; REGISTERS], log: &mut [u32; LOG], mem: &[u32])
+    requires { ⌜ Room 12 (now log) × (countOf (now log) ≡ 0) ⌝ }
+    ensures { λ _. ⌜ (view (now (regs .exit)) (now (log .exit)) ≡ step.choose (now (mem .entry)) (view (now (regs .entry)) (now (log .entry)))) × Ended 12 (now (log .entry)) (now (log .exit)) ⌝ }
 {
-    if step_pending::service::between_instructions(w) {
-        return channels_first(w, mem);
+    if step_pending::service::between_instructions(regs) {
+        channels_first(regs, log, mem);
+        return;
     }
-    instruction_unless_idle(w, mem)
+    instruction_unless_idle(regs, log, mem);
 }
 
 // Plans a step, or refuses by the first condition or access that fails.
-pub fn step(regs: [u32; REGISTERS], mem: &[u32]) -> Plan
-    ensures { λ r. ⌜ (view r ≡ step.step (now (mem .entry)) (begin regs)) × (r .cut ≤ r .n) × (r .n ≤ 16) ⌝ }
+pub fn step(regs: &mut [u32; REGISTERS], log: &mut [u32; LOG], mem: &[u32])
+    requires { ⌜ Room 12 (now log) × (countOf (now log) ≡ 0) ⌝ }
+    ensures { λ _. ⌜ (view (now (regs .exit)) (now (log .exit)) ≡ step.step (now (mem .entry)) (view (now (regs .entry)) (now (log .entry)))) × Ended 12 (now (log .entry)) (now (log .exit)) ⌝ }
 {
     if regs[FLAGS_REG] & HALTED_FLAG == 0 {
-        return step_pending::halting::halt_on_error(
-            choose(plan::begin(regs), mem),
-            regs[STATUS_REG],
-        );
+        let status = regs[STATUS_REG];
+        choose(regs, log, mem);
+        step_pending::halting::halt_on_error(regs, status);
+        return;
     }
-    plan::refuse(plan::begin(regs), HALTED)
+    plan::refuse(log, HALTED);
 }
 
 // Makes the step of a call after its checks: plans it, then commits or refuses.
@@ -133,7 +131,9 @@ pub fn plan_and_commit(m: Machine, mem: &mut [u32], journal: &mut [u32]) -> Repl
     requires { ⌜ (length (now mem) ≤ 16384) × (length (now journal) ≤ 65536) × (boundsBad (length (now journal)) (m .depth) (m .used) ≡ false) ⌝ }
     ensures { λ r. ⌜ outcomeOf r (now (mem .exit)) (now (journal .exit)) ≡ commitOrRefuse m (now (mem .entry)) (now (journal .entry)) 0 (step.step (now (mem .entry)) (begin (m .regs))) ⌝ }
 {
-    let regs = m.regs;
-    let p = step(regs, mem);
-    journal::outcome::commit_or_refuse(m, p, 0, mem, journal)
+    let mut regs = m.regs;
+    let mut log = [0u32; LOG];
+    plan::begin(&mut log);
+    step(&mut regs, &mut log, mem);
+    journal::outcome::commit_or_refuse(m, &regs, &log, 0, mem, journal)
 }

@@ -1,20 +1,20 @@
 -- A common step is the step of rules.
 use mathlib.Core.Path.{_≡_, refl}
 use mathlib.Core.Bool.{Bool, true, false, not}
-use mathlib.Core.List.{List, [], _∷_}
-use Prim.Native.Nat.{ℕ, zero, suc, _+_, _/_, _^_, _≤_}
+use mathlib.Core.List.{List, [], _∷_, _++_}
+use Prim.Native.Nat.{ℕ, zero, suc, _+_, _-_, _/_, _^_, _≤_, _<_}
 use native.Mathlib.Omega.{arith}
 use lib.Bits.{bitAnd}
 use lib.Dec.{eqb}
 use lib.ListN.{length, getD, drop}
 use borrow.Author.Tests.{eqb-true}
-use Rattle.rules.specs.Tests.{pick, ifEq, look}
-use Rattle.rules.specs.Words.{atWord, index, selector, byteOf}
+use Rattle.rules.specs.Tests.{ifEq, look}
+use Rattle.rules.specs.Words.{range, minus, atWord, index, selector, byteOf}
 use Rattle.rules.specs.Core.{core, wptrOf, priorityOf, gotoSNPBit, errorFlag}
 use Rattle.rules.specs.Stack as stack
 use Rattle.rules.specs.Registers.{statusReg, flagsReg, oreg, channelReg, linkChans, haltedFlag, idleFlag, runRequest, readyRequest, coreOf, withCore}
-use Rattle.rules.specs.Memory.{word, stores}
-use Rattle.rules.specs.Work.{Work, begin, reg, put, putCore, wordAt, byteAt, access, append, storeWord, rIndexWord, wIndexWord}
+use Rattle.rules.specs.Memory.{Store, word, stores}
+use Rattle.rules.specs.Work.{Work, begin, reg, put, putCore, wordAt, byteAt, access, append, storeWord, storeByte, rIndexWord, rIndexByte, wIndexWord}
 use Rattle.rules.specs.Scheduling as scheduling
 use Rattle.rules.specs.Data as loads
 use Rattle.rules.specs.Timers.{timerDue, timerReady}
@@ -54,16 +54,10 @@ core-listed : (s : Core) (rest : List ℕ) → coreOf (listed s rest) ≡ s
 unfolding coreOf
 core-listed s rest = refl
 
--- the work that is left by a common step, over the seven registers and the rest
-abbrev pub left : List ℕ → FastStep → Work
-left rest t =
-    record {
-      regs = listed (t .core) rest;
-      stored = pick (t .stores) (word (t .index) (t .value) ∷ []) [];
-      answer = 0;
-      kind = 0;
-      address = 0;
-    }
+-- the work that is left by a common step from s on, over the seven registers and the rest
+abbrev pub left : List ℕ → Core → FastStep → Work
+left rest s t =
+    record { regs = listed (t .core) rest; stored = fast.storesOf (listed s rest) t; answer = 0; kind = 0; address = 0 }
 
 -- ---- the end of a step where Status is as before it, with GotoSNP clear
 
@@ -99,12 +93,12 @@ module _ (m rest : List ℕ) where
   abbrev pub Good : ℕ → Core → FastStep → Type 0
   Good code s t =
       t .done ≡ true → bitAnd (s .status) gotoSNPBit ≡ 0
-      → steps.haltOnError (s .status) (steps.execute m code (begin (listed s rest))) ≡ left rest t
+      → steps.haltOnError (s .status) (steps.execute m code (begin (listed s rest))) ≡ left rest s t
 
   -- a function on registers alone
   registers-left : (f : Core → Core) (s : Core) → fast.registersOnly f s .done ≡ true → bitAnd (s .status) gotoSNPBit ≡ 0
       → steps.haltOnError (s .status) (scheduling.actOnSNP m (put oreg 0 (putCore (f (coreOf (listed s rest))) (begin (listed s rest)))))
-      ≡ left rest (fast.registersOnly f s)
+      ≡ left rest s (fast.registersOnly f s)
   unfolding fast.ifSameStatus put putCore coreOf withCore
   registers-left f s d clear =
       cases-eq (f s .status) (s .status)
@@ -141,6 +135,71 @@ module _ (m rest : List ℕ) where
       (λ h. rw (yes-lt h, yes-lt h) (finish m (s .status) _ refl clear))
       (λ h. never (rw (no-lt h) at d))
 
+  -- call: the words of a frame are one after the other
+  module _ (p : ℕ) (h : 3 ≤ index (atWord p (minus 1))) where
+    place-4 : index (atWord p (minus 4)) ≡ index (atWord p (minus 1)) - 3
+    place-4 = omega arith
+
+    place-3 : index (atWord p (minus 3)) ≡ index (atWord p (minus 1)) - 3 + 1
+    place-3 = omega arith
+
+    place-2 : index (atWord p (minus 2)) ≡ index (atWord p (minus 1)) - 3 + 2
+    place-2 = omega arith
+
+    place-1 : index (atWord p (minus 1)) ≡ index (atWord p (minus 1)) - 3 + 3
+    place-1 = omega arith
+
+    frame-fits : index (atWord p (minus 1)) - 3 < range - 3
+    frame-fits = omega arith
+
+  -- a store inside memory is appended
+  abbrev added : Store → Work → Work
+  added x w = record { regs = w .regs; stored = w .stored ++ (x ∷ []); answer = w .answer; kind = w .kind; address = w .address }
+
+  store-added : (base n v i : ℕ) (w : Work) → index (atWord base n) ≡ i → i < length m → w .answer ≡ 0
+      → wIndexWord m base n v w ≡ added (word i v) w
+  unfolding wIndexWord storeWord access append
+  store-added base n v i w e h z = rw (e, yes-lt h, yes-eq z)
+
+  frame-added : (s : Core) (i : ℕ)
+      → index (atWord (wptrOf (s .wdesc)) (minus 1)) ≡ i + 3
+      → index (atWord (wptrOf (s .wdesc)) (minus 2)) ≡ i + 2
+      → index (atWord (wptrOf (s .wdesc)) (minus 3)) ≡ i + 1
+      → index (atWord (wptrOf (s .wdesc)) (minus 4)) ≡ i
+      → i + 3 < length m
+      → loads.callFrame m (begin (listed s rest))
+      ≡ record { regs = listed s rest; stored = fast.frame i (s .iptr) (s .a) (s .b) (s .c); answer = 0; kind = 0; address = 0 }
+  unfolding loads.callFrame
+  frame-added s i e₁ e₂ e₃ e₄ h =
+      let p = wptrOf (s .wdesc) in
+      let w = begin (listed s rest) in
+      let w₁ = added (word (i + 3) (s .c)) w in
+      let w₂ = added (word (i + 2) (s .b)) w₁ in
+      let w₃ = added (word (i + 1) (s .a)) w₂ in
+      rw (
+        store-added p (minus 1) (s .c) (i + 3) w e₁ h refl,
+        store-added p (minus 2) (s .b) (i + 2) w₁ e₂ (omega arith) refl,
+        store-added p (minus 3) (s .a) (i + 1) w₂ e₃ (omega arith) refl,
+        store-added p (minus 4) (s .iptr) i w₃ e₄ (omega arith) refl,
+      )
+
+  called : (s : Core) (i : ℕ) → i < range - 3 → bitAnd (s .status) gotoSNPBit ≡ 0
+      → loads.callFrame m (begin (listed s rest))
+      ≡ record { regs = listed s rest; stored = fast.frame i (s .iptr) (s .a) (s .b) (s .c); answer = 0; kind = 0; address = 0 }
+      → steps.haltOnError (s .status) (steps.execute m 0x9 (begin (listed s rest))) ≡ left rest s (fast.finishCalling i (s .iptr) (fast.entered s))
+  unfolding steps.execute tables.function tables.functions fast.entered loads.call loads.entered loads.jumpBy loads.adjusted put
+  called s i f clear e = rw (e, yes-lt f) (finish m (s .status) _ refl clear)
+
+  call-good : (s : Core) → Good 0x9 s (fast.call m s)
+  unfolding fast.call
+  call-good s d clear =
+      let p = wptrOf (s .wdesc) in
+      cases-lt (fast.top s) 3
+      (λ l. never (rw (no-le l) at d))
+      (λ l. cases-lt (fast.top s) (length m)
+      (λ h. rw (yes-le l, yes-lt h) (called s (fast.top s - 3) (frame-fits p l) clear (frame-added s (fast.top s - 3) (place-1 p l) (place-2 p l) (place-3 p l) (place-4 p l) (omega arith))))
+      (λ h. never (rw (yes-le l, no-lt h) at d)))
+
   -- jump
   j-good : (s₀ s : Core) → Good 0x0 s (fast.j (listed s₀ rest) s)
   unfolding fast.j pending.sliceEnds steps.execute tables.function tables.functions scheduling.j scheduling.timeSlice scheduling.sliceIfRunning scheduling.sliceIfLong put
@@ -156,30 +215,63 @@ module _ (m rest : List ℕ) where
   -- ---- operations
 
   -- an operation on registers alone
-  selected-left : (t : Selected) (v : Work) (s : Core) → fast.ofTable (s .status) t .done ≡ true → bitAnd (s .status) gotoSNPBit ≡ 0
-      → steps.haltOnError (s .status) (scheduling.actOnSNP m (put oreg 0 (either t (begin (listed s rest)) v))) ≡ left rest (fast.ofTable (s .status) t)
+  selected-left : (t : Selected) (v : Work) (u : FastStep) (s : Core) → fast.ofTable (s .status) t u .done ≡ true → bitAnd (s .status) gotoSNPBit ≡ 0
+      → (u .done ≡ true → steps.haltOnError (s .status) (scheduling.actOnSNP m (put oreg 0 v)) ≡ left rest s u)
+      → steps.haltOnError (s .status) (scheduling.actOnSNP m (put oreg 0 (either t (begin (listed s rest)) v))) ≡ left rest s (fast.ofTable (s .status) t u)
   unfolding either
-  selected-left t v s d clear =
-      by-bool (t .found) (λ h. rw h (registers-left (λ _. t .core) s (rw h at d) clear)) (λ h. never (rw h at d))
+  selected-left t v u s d clear e =
+      by-bool (t .found) (λ h. rw h (registers-left (λ _. t .core) s (rw h at d) clear)) (λ h. rw h (e (rw h at d)))
 
-  opr-good : (s : Core) → Good 0xF s (fast.opr s)
+  -- an operation that accesses memory
+  abbrev Accessed : ℕ → (Core → FastStep) → Type 0
+  Accessed k f = (s : Core) → f s .done ≡ true → bitAnd (s .status) gotoSNPBit ≡ 0
+      → steps.haltOnError (s .status) (scheduling.actOnSNP m (put oreg 0 (look tables.otherOperations k tables.unlistedAction m (begin (listed s rest))))) ≡ left rest s (f s)
+
+  lb-good : Accessed 0x01 (fast.lb m)
+  unfolding fast.lb tables.otherOperations loads.lb put rIndexByte byteAt wordAt access stores
+  lb-good s d clear =
+      cases-lt (index (s .a)) (length m)
+      (λ h. rw (yes-lt h, yes-lt h) (finish m (s .status) _ refl clear))
+      (λ h. never (rw (no-lt h) at d))
+
+  ret-good : Accessed 0x20 (fast.ret m)
+  unfolding fast.ret tables.otherOperations loads.ret loads.adjusted put rIndexWord wordAt access stores
+  ret-good s d clear =
+      cases-lt (index (atWord (wptrOf (s .wdesc)) 0)) (length m)
+      (λ h. rw (yes-lt h, yes-lt h) (finish m (s .status) _ refl clear))
+      (λ h. never (rw (no-lt h) at d))
+
+  sb-good : Accessed 0x3B (fast.sb m)
+  unfolding fast.sb tables.otherOperations loads.sb put storeByte wordAt access append stores ifEq
+  sb-good s d clear =
+      cases-lt (index (s .a)) (length m)
+      (λ h. rw (yes-lt h, yes-lt h) (finish m (s .status) _ refl clear))
+      (λ h. never (rw (no-lt h) at d))
+
+  memory-good : (k : ℕ) → Accessed k (fast.memoryOperation m k)
+  unfolding fast.memoryOperation fast.memoryOperations
+  memory-good k = looked Accessed (fast.memoryOperations m) (lb-good, (ret-good, (sb-good, tt))) k (λ s d clear. never d)
+
+  opr-good : (s : Core) → Good 0xF s (fast.opr m s)
   unfolding fast.operate steps.execute tables.function tables.functions coreOf
-  opr-good s d clear = rw (operate-is (s .oreg) m (begin (listed s rest))) (selected-left (registerOperation (s .oreg) s) _ s d clear)
+  opr-good s d clear =
+      rw (operate-is (s .oreg) m (begin (listed s rest)))
+      (selected-left (registerOperation (s .oreg) s) _ (fast.memoryOperation m (s .oreg) s) s d clear (λ e. memory-good (s .oreg) s e clear))
 
   -- ---- decoding
 
   abbrev Decoded : ℕ → (Core → FastStep) → Type 0
   Decoded k f = (s : Core) → f s .done ≡ true → bitAnd (s .status) gotoSNPBit ≡ 0
-      → steps.haltOnError (s .status) (steps.decode m k (begin (listed s rest))) ≡ left rest (f s)
+      → steps.haltOnError (s .status) (steps.decode m k (begin (listed s rest))) ≡ left rest s (f s)
 
-  prefix-left : (f : Core → Core) (s : Core) → (f s .status ≡ s .status) → steps.haltOnError (s .status) (putCore (f (coreOf (listed s rest))) (begin (listed s rest))) ≡ left rest (fast.prefix (f s))
+  prefix-left : (f : Core → Core) (s : Core) → (f s .status ≡ s .status) → steps.haltOnError (s .status) (putCore (f (coreOf (listed s rest))) (begin (listed s rest))) ≡ left rest s (fast.prefix (f s))
   unfolding putCore coreOf withCore
   prefix-left f s e = halt-same (s .status) _ e
 
   decode-rows : (s₀ : Core) → All Decoded (fast.functions m (listed s₀ rest))
   unfolding fast.functions steps.decode ifEq steps.execute tables.function tables.functions
   decode-rows s₀ =
-      (j-good s₀, (registers-left stack.ldlp, ((λ s d clear. prefix-left stack.pfix s refl), (ldnl-good, (registers-left stack.ldc, (registers-left stack.ldnlp, ((λ s d clear. prefix-left stack.nfix s refl), (ldl-good, (registers-left stack.adc, (registers-left stack.cj, (registers-left stack.ajw, (registers-left stack.eqc, (stl-good, (stnl-good, (opr-good, tt)))))))))))))))
+      (j-good s₀, (registers-left stack.ldlp, ((λ s d clear. prefix-left stack.pfix s refl), (ldnl-good, (registers-left stack.ldc, (registers-left stack.ldnlp, ((λ s d clear. prefix-left stack.nfix s refl), (ldl-good, (registers-left stack.adc, (call-good, (registers-left stack.cj, (registers-left stack.ajw, (registers-left stack.eqc, (stl-good, (stnl-good, (opr-good, tt))))))))))))))))
 
   decode-good : (s₀ : Core) (k : ℕ) → Decoded k (fast.decode m (listed s₀ rest) k)
   unfolding fast.decode
@@ -188,7 +280,7 @@ module _ (m rest : List ℕ) where
   -- ---- the fetch
 
   fetch-good : (s : Core) → fast.fetch m (listed s rest) s .done ≡ true → bitAnd (s .status) gotoSNPBit ≡ 0
-      → steps.haltOnError (s .status) (steps.instruction m (begin (listed s rest))) ≡ left rest (fast.fetch m (listed s rest) s)
+      → steps.haltOnError (s .status) (steps.instruction m (begin (listed s rest))) ≡ left rest s (fast.fetch m (listed s rest) s)
   unfolding fast.fetch fast.decoded steps.instruction steps.fetched put byteAt wordAt access stores
   fetch-good s d clear =
       cases-lt (index (s .iptr)) (length m)

@@ -1,14 +1,14 @@
 -- The common steps, as definitions on the seven registers, the rest of the registers and the memory. That they are the steps of rules is the
 -- law `fast-step` in proofs/.
-use Prim.Native.Nat.{ℕ, _/_, _^_}
+use Prim.Native.Nat.{ℕ, zero, suc, _+_, _-_, _/_, _%_, _^_}
 use mathlib.Core.Bool.{true, false}
 use mathlib.Core.List.{List, [], _∷_}
 use lib.ListN.{length, getD}
-use Rattle.rules.specs.Tests.{pick, ifLt, ifEq, look}
-use Rattle.rules.specs.Words.{atByte, atWord, index, selector, byteOf, withNibble}
-use Rattle.rules.specs.Core.{core, withIptr, withA, withOreg, wptrOf, push, pop}
+use Rattle.rules.specs.Tests.{pick, ifLt, ifLe, ifEq, look}
+use Rattle.rules.specs.Words.{range, minus, atByte, atWord, index, selector, byteOf, withByte, withNibble}
+use Rattle.rules.specs.Core.{core, withIptr, withA, withOreg, wptrOf, moveWorkspace, push, pop}
 use Rattle.rules.specs.Stack as stack
-use Rattle.rules.specs.Registers.{coreOf, withCore}
+use Rattle.rules.specs.Registers.{areg, breg, creg, coreOf, withCore}
 use Rattle.rules.specs.Memory.{Store, word}
 use Rattle.rules.specs.Work.{Work}
 use Rattle.rules.specs.declared.Core.{Core}
@@ -19,19 +19,23 @@ use Rattle.step_fast.specs.declared.FastStep.{FastStep}
 
 -- declined: step_engine makes the step (DECISIONS 54)
 abbrev pub decline : FastStep
-decline = record { done = false; core = core 0 0 0 0 0 0 0; stores = false; index = 0; value = 0 }
+decline = record { done = false; core = core 0 0 0 0 0 0 0; stores = 0; index = 0; value = 0 }
 
 -- done without a store; Oreg is 0 afterwards (01, One step; DECISIONS 54)
 abbrev pub finish : Core → FastStep
-finish s = record { done = true; core = withOreg 0 s; stores = false; index = 0; value = 0 }
+finish s = record { done = true; core = withOreg 0 s; stores = 0; index = 0; value = 0 }
 
 -- done with the store of v in word i; Oreg is 0 afterwards (01, One step; DECISIONS 54)
 abbrev pub finishStoring : ℕ → ℕ → Core → FastStep
-finishStoring i v s = record { done = true; core = withOreg 0 s; stores = true; index = i; value = v }
+finishStoring i v s = record { done = true; core = withOreg 0 s; stores = 1; index = i; value = v }
+
+-- done with the frame of a call, from word i on; v is its first word. Oreg is 0 afterwards (01, One step; DECISIONS 54)
+abbrev pub finishCalling : ℕ → ℕ → Core → FastStep
+finishCalling i v s = record { done = true; core = withOreg 0 s; stores = 4; index = i; value = v }
 
 -- a prefix: done, and Oreg keeps its value (01, One step; DECISIONS 54)
 abbrev pub prefix : Core → FastStep
-prefix s = record { done = true; core = s; stores = false; index = 0; value = 0 }
+prefix s = record { done = true; core = s; stores = 0; index = 0; value = 0 }
 
 -- done where Status is as before, so that nothing halts and GotoSNP stays clear; else declined
 -- (01, One step; DECISIONS 54)
@@ -39,6 +43,15 @@ unfoldable pub ifSameStatus : ℕ → FastStep → FastStep
 ifSameStatus status t = ifEq (t .core .status) status t decline
 
 -- ---- the functions, on the registers after the fetch
+
+-- the word below Wptr, which is the highest of the frame of a call (000 1.11, call)
+abbrev pub top : Core → ℕ
+top s = index (atWord (wptrOf (s .wdesc)) (minus 1))
+
+-- the end of call, from Areg := IptrReg on (000 1.11, call)
+unfoldable pub entered : Core → Core
+entered s =
+    withIptr (atByte (s .iptr) (s .oreg)) (withA (s .iptr) (moveWorkspace (atWord (wptrOf (s .wdesc)) (minus 4)) s))
 
 module _ (m : List ℕ) where
   -- load local (000 1.11, ldl); outside memory it is declined (DECISIONS 54)
@@ -69,6 +82,31 @@ module _ (m : List ℕ) where
       (finishStoring (index (atWord (s .a) (s .oreg))) (s .b) (withA (s .c) s))
       decline
 
+  -- call (000 1.11); where its four words are not inside memory, one after the other, it is declined (DECISIONS 54)
+  unfoldable pub call : Core → FastStep
+  call s = ifLe 3 (top s) (ifLt (top s) (length m) (finishCalling (top s - 3) (s .iptr) (entered s)) decline) decline
+
+  -- return (000 1.11, ret); outside memory it is declined (DECISIONS 54)
+  unfoldable pub ret : Core → FastStep
+  ret s =
+      ifLt (index (atWord (wptrOf (s .wdesc)) 0)) (length m)
+      (finish (withIptr (getD m (index (atWord (wptrOf (s .wdesc)) 0)) 0) (moveWorkspace (atWord (wptrOf (s .wdesc)) 4) s)))
+      decline
+
+  -- load byte (000 1.11, lb); outside memory it is declined (DECISIONS 54)
+  unfoldable pub lb : Core → FastStep
+  lb s =
+      ifLt (index (s .a)) (length m)
+      (finish (withA (byteOf (selector (s .a)) (getD m (index (s .a)) 0)) s))
+      decline
+
+  -- store byte, as a store of its word (000 1.11, sb; DECISIONS 8, 38); outside memory it is declined (DECISIONS 54)
+  unfoldable pub sb : Core → FastStep
+  sb s =
+      ifLt (index (s .a)) (length m)
+      (finishStoring (index (s .a)) (withByte (selector (s .a)) (s .b % 256) (getD m (index (s .a)) 0)) (withA (s .c) s))
+      decline
+
 -- jump (000 1.11, j); where a slice ends it is declined (DECISIONS 54)
 unfoldable pub j : List ℕ → Core → FastStep
 j r s = pick (sliceEnds s r) decline (finish (withIptr (atByte (s .iptr) (s .oreg)) s))
@@ -83,13 +121,21 @@ registersOnly f s = ifSameStatus (s .status) (finish (f s))
 abbrev pub other : Core → FastStep
 other s = decline
 
--- what the table of operations on registers alone gave, done where it leaves Status as it was; else declined (DECISIONS 54)
-abbrev pub ofTable : ℕ → Selected → FastStep
-ofTable status t = pick (t .found) (ifSameStatus status (finish (t .core))) decline
+-- the operations done here that access memory, by their codes (000 1.11, Operations; DECISIONS 54)
+unfoldable pub memoryOperations : List ℕ → List (ℕ × (Core → FastStep))
+memoryOperations m = (0x01, lb m) ∷ (0x20, ret m) ∷ (0x3B, sb m) ∷ []
+
+-- the operation of a code that accesses memory, or declined (DECISIONS 54)
+unfoldable pub memoryOperation : List ℕ → ℕ → Core → FastStep
+memoryOperation m code s = look (memoryOperations m) code other s
+
+-- what the table of operations on registers alone gave, done where it leaves Status as it was; where it has nothing, `next` (DECISIONS 54)
+abbrev pub ofTable : ℕ → Selected → FastStep → FastStep
+ofTable status t next = pick (t .found) (ifSameStatus status (finish (t .core))) next
 
 -- the operation of a code, the whole operand register (000 1.8, Secondary; DECISIONS 1)
-unfoldable pub operate : ℕ → Core → FastStep
-operate code s = ofTable (s .status) (registerOperation code s)
+unfoldable pub operate : List ℕ → ℕ → Core → FastStep
+operate m code s = ofTable (s .status) (registerOperation code s) (memoryOperation m code s)
 
 -- ---- decoding: the memory, all registers, the function's number, and the seven registers after the fetch
 
@@ -98,10 +144,10 @@ abbrev pub prefixing : (Core → Core) → Core → FastStep
 prefixing f s = prefix (f s)
 
 -- operate: Oreg selects the operation (000 1.11, opr)
-abbrev pub opr : Core → FastStep
-opr s = operate (s .oreg) s
+abbrev pub opr : List ℕ → Core → FastStep
+opr m s = operate m (s .oreg) s
 
--- the functions done here, by their codes: all but call (000 1.11, Direct, Prefixing and Indirect Functions; DECISIONS 54)
+-- the functions, by their codes (000 1.11, Direct, Prefixing and Indirect Functions; DECISIONS 54)
 unfoldable pub functions : List ℕ → List ℕ → List (ℕ × (Core → FastStep))
 functions m r =
     (0x0, j r)
@@ -113,12 +159,13 @@ functions m r =
     ∷ (0x6, prefixing stack.nfix)
     ∷ (0x7, ldl m)
     ∷ (0x8, registersOnly stack.adc)
+    ∷ (0x9, call m)
     ∷ (0xA, registersOnly stack.cj)
     ∷ (0xB, registersOnly stack.ajw)
     ∷ (0xC, registersOnly stack.eqc)
     ∷ (0xD, stl m)
     ∷ (0xE, stnl m)
-    ∷ (0xF, opr)
+    ∷ (0xF, opr m)
     ∷ []
 
 -- the function of a number, on the registers after the fetch (000 1.8, Primary and Secondary)
@@ -146,13 +193,22 @@ fetch m r s =
 unfoldable pub fast : List ℕ → List ℕ → FastStep
 fast m r = pick (nothingPending r) (fetch m r (coreOf r)) decline
 
--- the work that a common step stands for: its registers, and its store if it has one (DECISIONS 44, 54)
+-- the frame of a call from word i on, in 000's order: C, B, A, and v, which is Iptr (000 1.11, call; DECISIONS 54)
+abbrev pub frame : ℕ → ℕ → ℕ → ℕ → ℕ → List Store
+frame i v a b c = word (i + 3) c ∷ word (i + 2) b ∷ word (i + 1) a ∷ word i v ∷ []
+
+-- the stores by their number: none; one, of v in word i; else the frame from word i on. The four indices of a frame are words, else there is
+-- no frame (DECISIONS 54)
+abbrev pub stored : ℕ → ℕ → ℕ → ℕ → ℕ → ℕ → List Store
+stored zero i v a b c = []
+stored (suc zero) i v a b c = word i v ∷ []
+stored (suc (suc n)) i v a b c = ifLt i (range - 3) (frame i v a b c) []
+
+-- the stores of a common step: a frame has the A, B and C of the registers r before the step (DECISIONS 44, 54)
+abbrev pub storesOf : List ℕ → FastStep → List Store
+storesOf r t = stored (t .stores) (t .index) (t .value) (getD r areg 0) (getD r breg 0) (getD r creg 0)
+
+-- the work that a common step stands for, from the registers r before it (DECISIONS 44, 54)
 abbrev pub fastWork : List ℕ → FastStep → Work
 fastWork r t =
-    record {
-      regs = withCore (t .core) r;
-      stored = pick (t .stores) (word (t .index) (t .value) ∷ []) [];
-      answer = 0;
-      kind = 0;
-      address = 0;
-    }
+    record { regs = withCore (t .core) r; stored = storesOf r t; answer = 0; kind = 0; address = 0 }

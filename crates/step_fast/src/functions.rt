@@ -6,10 +6,16 @@ use core_ops::logic;
 use core_ops::stack;
 use rules::Core;
 use rules::REGISTERS;
+use rules::names::*;
 use step_pending::pending;
 ghost use mathlib.Core.Path.{_≡_};
 ghost use Rattle.step_fast.specs.Fast as fast;
 ghost use Rattle.rules.specs.Core as core;
+
+// The length of a call frame in words, and its negative.
+const FRAME: u32 = 4;
+
+const MINUS_FRAME: u32 = 0xFFFF_FFFC;
 
 // Declines the step.
 pub fn decline() -> FastStep
@@ -27,7 +33,7 @@ pub fn decline() -> FastStep
     FastStep {
         done: false,
         core,
-        stores: false,
+        stores: 0,
         index: 0,
         value: 0,
     }
@@ -40,7 +46,7 @@ fn prefix(s: Core) -> FastStep
     FastStep {
         done: true,
         core: s,
-        stores: false,
+        stores: 0,
         index: 0,
         value: 0,
     }
@@ -63,7 +69,22 @@ fn finish_storing(i: u32, v: u32, s: Core) -> FastStep
     FastStep {
         done: true,
         core: t,
-        stores: true,
+        stores: 1,
+        index: i,
+        value: v,
+    }
+}
+
+// Finishes a call: the frame starts at word i, and v is the first of its words.
+fn finish_calling(i: u32, v: u32, s: Core) -> FastStep
+    ensures { λ r. ⌜ r ≡ fast.finishCalling i v s ⌝ }
+{
+    let mut t = s;
+    t.oreg = 0;
+    FastStep {
+        done: true,
+        core: t,
+        stores: 4,
         index: i,
         value: v,
     }
@@ -132,16 +153,87 @@ fn j(regs: [u32; REGISTERS], s: Core) -> FastStep
     finish(t)
 }
 
-// Does an operation on registers alone; declines every other.
-fn operate(code: u32, s: Core) -> FastStep
-    ensures { λ r. ⌜ r ≡ fast.operate code s ⌝ }
+// Enters a procedure: copies the return address to A, moves Wptr below the frame and jumps by Oreg.
+fn entered(s: Core) -> Core
+    ensures { λ r. ⌜ r ≡ fast.entered s ⌝ }
+{
+    let mut t = stack::move_workspace(words::at_word(words::wptr_of(s.wdesc), MINUS_FRAME), s);
+    t.a = s.iptr;
+    t.iptr = words::at_byte(s.iptr, s.oreg);
+    t
+}
+
+// Call: top is the word below Wptr, the highest of the frame. Declines where the four words are not in memory, one after the other.
+fn call(mem: &[u32], s: Core) -> FastStep
+    ensures { λ r. ⌜ r ≡ fast.call (now (mem .entry)) s ⌝ }
+{
+    let top = words::index_of(words::at_word(words::wptr_of(s.wdesc), MINUS_ONE));
+    if 3 <= top {
+        if (top as usize) < mem.len() {
+            return finish_calling(top - 3, s.iptr, entered(s));
+        }
+        return decline();
+    }
+    decline()
+}
+
+fn ret(mem: &[u32], s: Core) -> FastStep
+    ensures { λ r. ⌜ r ≡ fast.ret (now (mem .entry)) s ⌝ }
+{
+    let wptr = words::wptr_of(s.wdesc);
+    let at = words::index_of(words::at_word(wptr, 0)) as usize;
+    if at < mem.len() {
+        let mut t = stack::move_workspace(words::at_word(wptr, FRAME), s);
+        t.iptr = mem[at];
+        return finish(t);
+    }
+    decline()
+}
+
+fn lb(mem: &[u32], s: Core) -> FastStep
+    ensures { λ r. ⌜ r ≡ fast.lb (now (mem .entry)) s ⌝ }
+{
+    let at = words::index_of(s.a) as usize;
+    if at < mem.len() {
+        return finish(stack::with_a(words::byte_of(words::selector(s.a), mem[at]), s));
+    }
+    decline()
+}
+
+fn sb(mem: &[u32], s: Core) -> FastStep
+    ensures { λ r. ⌜ r ≡ fast.sb (now (mem .entry)) s ⌝ }
+{
+    let i = words::index_of(s.a);
+    let at = i as usize;
+    if at < mem.len() {
+        let v = words::with_byte(words::selector(s.a), s.b % 256, mem[at]);
+        return finish_storing(i, v, stack::with_a(s.c, s));
+    }
+    decline()
+}
+
+// Does lb, ret or sb; declines every other operation.
+fn memory_operation(mem: &[u32], code: u32, s: Core) -> FastStep
+    ensures { λ r. ⌜ r ≡ fast.memoryOperation (now (mem .entry)) code s ⌝ }
+{
+    match code {
+        0x01 => lb(mem, s),
+        0x20 => ret(mem, s),
+        0x3B => sb(mem, s),
+        _ => decline(),
+    }
+}
+
+// Does an operation on registers alone, or one of the few that access memory, which are asked for last; declines every other.
+fn operate(mem: &[u32], code: u32, s: Core) -> FastStep
+    ensures { λ r. ⌜ r ≡ fast.operate (now (mem .entry)) code s ⌝ }
 {
     let t = core_table::register_operation(code, s.iptr, s.wdesc, s.a, s.b, s.c, s.oreg, s.status);
     let found = t.found;
     if found {
         return finish_if_same_status(s.status, t.core);
     }
-    decline()
+    memory_operation(mem, code, s)
 }
 
 // Does the function of a code; regs are all registers before the step.
@@ -158,12 +250,13 @@ pub fn decode(mem: &[u32], regs: [u32; REGISTERS], code: u32, s: Core) -> FastSt
         0x6 => prefix(stack::nfix(s)),
         0x7 => ldl(mem, s),
         0x8 => finish_if_same_status(s.status, word::adc(s)),
+        0x9 => call(mem, s),
         0xA => finish_if_same_status(s.status, stack::cj(s)),
         0xB => finish_if_same_status(s.status, stack::ajw(s)),
         0xC => finish_if_same_status(s.status, stack::eqc(s)),
         0xD => stl(mem, s),
         0xE => stnl(mem, s),
-        0xF => operate(s.oreg, s),
+        0xF => operate(mem, s.oreg, s),
         _ => decline(),
     }
 }

@@ -1,5 +1,5 @@
-// Common steps (DECISIONS 54; specs/Fast.antt): nearly every step of a program works on the seven registers of Core and makes at most one
-// store. Declines every other step, and one that changes Status; step_engine makes those.
+// Common steps (DECISIONS 54; specs/Fast.antt): nearly every step of a program works on the seven registers of Core and stores nothing, one
+// word, or the frame of a call. Declines every other step, and one that changes Status; step_engine makes those.
 pub mod functions; // the sixteen functions, after the fetch
 
 use rules::Core;
@@ -10,11 +10,12 @@ ghost use Prim.Native.Nat.{_<_};
 ghost use Rattle.rules.specs.Registers as registers;
 ghost use Rattle.step_fast.specs.Fast as fast;
 
-// The outcome: done or declined, the registers after the step, and its store if it makes one.
+// The outcome: done or declined, the registers after the step, and the number of words that it stores: 0; 1, value in word index; or 4,
+// the frame of a call from word index on: value, then A, B and C as they were before the step.
 pub struct FastStep {
     pub done: bool,
     pub core: Core,
-    pub stores: bool,
+    pub stores: usize,
     pub index: u32,
     pub value: u32,
 }

@@ -10,19 +10,17 @@ ghost use Rattle.step_pending.specs.NothingPending as pending;
 // Run request and ready request.
 const REQUESTS: u32 = RUN_REQUEST + READY_REQUEST;
 
-// Tests that no channel has a request.
+// Tests that no channel has a request: ORs the flags of the nine, then tests once.
 fn no_request(regs: [u32; REGISTERS]) -> bool
     ensures { λ r. ⌜ r ≡ pending.noRequest 0 9 regs ⌝ }
 {
     let mut c = 0;
+    let mut flags = 0;
     while c < 9 {
-        if regs[CHANNEL_REG + 3 * c] & REQUESTS == 0 {
-            c += 1;
-        } else {
-            return false;
-        }
+        flags |= regs[CHANNEL_REG + 3 * c];
+        c += 1;
     }
-    true
+    flags & REQUESTS == 0
 }
 
 // Tests whether a timer is enabled and its time has come. mask is the timer's bit of the flags.

@@ -75,11 +75,12 @@ pub fn take(m: Machine, mem: &mut [u32], journal: &mut [u32], channel: u32) -> R
         return journal::checks::refuse(m, number);
     }
     let c = channel as usize;
-    let regs = m.regs;
-    let w = plan::begin(regs);
-    let byte = links::link_calls::taken(w, mem, c);
-    let p = links::link_calls::take(w, mem, c);
-    journal::outcome::commit_or_refuse(m, p, byte as u8, mem, journal)
+    let mut regs = m.regs;
+    let mut log = [0u32; plan::LOG];
+    plan::begin(&mut log);
+    let byte = links::link_calls::taken(&regs, &log, mem, c);
+    links::link_calls::take(&mut regs, &mut log, mem, c);
+    journal::outcome::commit_or_refuse(m, &regs, &log, byte as u8, mem, journal)
 }
 
 // Gives a byte to an input link.
@@ -96,9 +97,11 @@ pub fn give(m: Machine, mem: &mut [u32], journal: &mut [u32], channel: u32, byte
     if number != 0 {
         return journal::checks::refuse(m, number);
     }
-    let regs = m.regs;
-    let p = links::link_calls::give(plan::begin(regs), mem, channel as usize, byte as u32);
-    journal::outcome::commit_or_refuse(m, p, 0, mem, journal)
+    let mut regs = m.regs;
+    let mut log = [0u32; plan::LOG];
+    plan::begin(&mut log);
+    links::link_calls::give(&mut regs, &mut log, mem, channel as usize, byte as u32);
+    journal::outcome::commit_or_refuse(m, &regs, &log, 0, mem, journal)
 }
 
 // Raises the event pin.
@@ -109,9 +112,11 @@ pub fn event(m: Machine, mem: &mut [u32], journal: &mut [u32]) -> Reply
     if number != 0 {
         return journal::checks::refuse(m, number);
     }
-    let regs = m.regs;
-    let p = links::link_calls::event(plan::begin(regs));
-    journal::outcome::commit_or_refuse(m, p, 0, mem, journal)
+    let mut regs = m.regs;
+    let mut log = [0u32; plan::LOG];
+    plan::begin(&mut log);
+    links::link_calls::event(&mut regs, &mut log);
+    journal::outcome::commit_or_refuse(m, &regs, &log, 0, mem, journal)
 }
 
 // Undoes the last accepted call.

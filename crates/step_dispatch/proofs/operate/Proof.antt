@@ -6,11 +6,17 @@ use Rattle.step_dispatch.proofs.operate.Tie as tie
 
 returns : tie.Need-returns
 unfolding either
-returns c = (rw (operate-is, ← c .before .before .before .before .core-of .ensures, ← c .before .before .before .register-operation .ensures, c .before .before .if1 .taken) (c .put-core .ensures .0), search needs)
+returns c = (rw (operate-is, ← c .before .before .before .before .before .core-of .ensures, ← c .before .before .before .before .register-operation .ensures, c .before .before .before .if1 .taken) (c .put-core .ensures _), search needs)
 
 returns-2 : tie.Need-returns-2
 unfolding either otherOperation
-returns-2 c = (rw (operate-is, ← c .before .before .before .core-of .ensures, ← c .before .before .register-operation .ensures, c .before .if1 .left) (c .other-operation .ensures .0), search needs)
+returns-2 c = (rw (operate-is, ← c .before .before .before .before .before .core-of .ensures, ← c .before .before .before .before .register-operation .ensures, c .before .before .before .if1 .left) (c .other-operation .ensures .0), search needs)
 
 pub operate-spec : {M : Type 1} → statement M
-operate-spec = tie.close (tie.spec (λ c κs. search needs) (λ c κs. search needs) (λ c κs. search needs) returns (λ c κs. search needs) returns-2)
+operate-spec = tie.close (tie.spec
+    (λ c κs. search needs)
+    (λ c κs. search needs)
+    (λ c κs. search needs)
+    returns
+    (λ c κs. search needs)
+    returns-2)

@@ -6,22 +6,25 @@ use Rattle.step_engine.proofs.decode.Tie as tie
 
 pub decode-spec : {M : Type 1} → statement M
 unfolding steps.decode
-decode-spec =
-    tie.close (tie.spec
-    (λ c κs. search needs) (λ c κs. search needs) (λ c κs. search needs)
+decode-spec = tie.close (tie.spec
+    (λ c κs. search needs)
+    (λ c κs. search needs)
+    (λ c κs. search needs)
     (λ c. (
-      rw (yes-eq (c .before .before .before .if1 .taken)) (rw (
-        c .put-core .ensures .0,
-        c .before .pfix .ensures,
-        c .before .before .core-of .ensures,
+      rw (yes-eq (c .before .before .before .before .before .if1 .taken)) (rw (
+        c .put-core .ensures,
+        c .before .before .pfix .ensures,
+        c .before .before .before .core-of .ensures,
       )),
       search needs,
     ))
-    (λ c κs. search needs) (λ c κs. search needs) (λ c κs. search needs)
+    (λ c κs. search needs)
+    (λ c κs. search needs)
+    (λ c κs. search needs)
     (λ c. (
-      rw (no-eq (c .before .before .before .before .if1 .left), yes-eq (c .before .before .before .if2 .taken))
-          (rw (c .put-core2 .ensures .0, c .before .nfix .ensures, c .before .before .core-of2 .ensures)),
+      rw (no-eq (c .before .before .before .before .before .before .if1 .left), yes-eq (c .before .before .before .before .before .if2 .taken))
+          (rw (c .put-core2 .ensures, c .before .before .nfix .ensures, c .before .before .before .core-of2 .ensures)),
       search needs,
     ))
     (λ c κs. search needs)
-    (λ c. (rw (no-eq (c .before .before .if1 .left), no-eq (c .before .if2 .left)) (c .execute .ensures .0), search needs)))
+    (λ c. (rw (no-eq (c .before .before .before .before .if1 .left), no-eq (c .before .before .before .if2 .left)) (c .execute .ensures .0), search needs)))

@@ -5,14 +5,16 @@ use Rattle.step_engine.proofs.instruction.Tie as tie
 
 pub instruction-spec : {M : Type 1} → statement M
 unfolding steps.instruction
-instruction-spec =
-    tie.close (tie.spec
-    (λ c. search needs) (λ c κs. search needs) (λ c κs. search needs) (λ c κs. search needs) (λ c κs. search needs)
+instruction-spec = tie.close (tie.spec
+    (λ c. search needs)
+    (λ c κs. search needs)
+    (λ c κs. search needs)
+    (λ c κs. search needs)
     (λ c. (
       rw (
-        ← c .before .before .before .byte-at .ensures .0,
-        ← c .before .before .fetch-byte .ensures .0,
-        ← c .before .fetched .ensures .0,
+        ← c .before .before .before .before .before .fetch-byte .ensures .0,
+        ← c .before .before .before .before .before .fetch-byte .ensures .1,
+        ← c .before .before .before .fetched .ensures,
       ) (c .decode .ensures .0),
       search needs,
     )))

@@ -27,21 +27,22 @@ module _ (m : List ℕ) (w : Work) where
   by-first = by-number (timerReady 0 w) (timerReady 1 w) (λ k. actOnSNP m (handleTimerRequest m k w)) (steps.instructionUnlessIdle m w)
 
 pub timers-first-spec : {M : Type 1} → statement M
-timers-first-spec =
-    tie.close (tie.spec
-    (λ c κs. search needs) (λ c κs. search needs) (λ c κs. search needs)
+timers-first-spec = tie.close (tie.spec
+    (λ c κs. search needs)
+    (λ c κs. search needs)
+    (λ c κs. search needs)
     (λ c. (
       rw (
         by-first _ _,
-        ← c .before .before .before .ready-timer .ensures,
-        yes-lt (c .before .before .if1 .taken),
-        ← c .before .handle-timer-request .ensures .0,
+        ← c .before .before .before .before .before .before .before .ready-timer .ensures,
+        yes-lt (c .before .before .before .before .before .before .if1 .taken),
+        ← c .before .before .before .handle-timer-request .ensures .0,
       ) (c .act-on-snp .ensures .0),
       search needs,
     ))
     (λ c κs. search needs)
     (λ c. (
-      rw (by-first _ _, ← c .before .before .ready-timer .ensures, no-lt (c .before .if1 .left))
+      rw (by-first _ _, ← c .before .before .before .before .ready-timer .ensures, no-lt (c .before .before .before .if1 .left))
           (c .instruction-unless-idle .ensures .0),
       search needs,
     )))

@@ -1,12 +1,13 @@
+use borrow.Author.Needs.{needs}
 use native.Mathlib.Omega.{arith}
-use mathlib.Core.Path.{_≡_, sym, _∙_}
+use mathlib.Core.Path.{_≡_, sym, ap, _∙_}
 use Prim.Native.Nat.{_-_}
 use lib.ListN.{length}
 use Rattle.rules.specs.Registers.{registers}
-use Rattle.rules.specs.Calls.{give}
+use Rattle.rules.specs.Links as links
+use Rattle.rules.specs.Calls.{give, notInput}
 use Rattle.journal.proofs.Refusing.{number-known, stopped, passed, channel-good, input-good}
 use Rattle.journal.proofs.CommitOrRefuse.{ready, give-known}
-use borrow.Author.Needs.{needs}
 use Rattle.t414.proofs.give.Statement.{statement}
 use Rattle.t414.proofs.give.Tie as tie
 
@@ -15,59 +16,38 @@ long c = search needs
 
 refuse-requires : tie.Need-refuse-requires
 refuse-requires c κs =
-    let f = c .before in
-    let n = f .before in
-    let a = n .before .before .before .args in
-    omega (arith, f .first-bad .ensures, number-known (n .not-input .result) (a .m) (a .mem .now) (a .journal .now))
+    let a = c .before .before .before .before .before .args in
+    omega (arith, c .before .first-bad .ensures, number-known (c .before .before .not-input .result) (a .m) (a .mem .now) (a .journal .now))
 
 returns : tie.Need-returns
 unfolding give
 returns c =
-    let i = c .before in
-    let f = i .before in
-    let n = f .before in
-    let a = n .before .before .before .args in
-    rw (← n .not-input .ensures) (c .refuse .ensures (a .mem .now) (a .journal .now) ∙ stopped (n .not-input .result) (a .m) (a .mem .now) (a .journal .now) _ (f .first-bad .result) (f .first-bad .ensures) (i .if1 .taken))
+    let a = c .before .before .before .before .before .before .args in
+    rw (← c .before .before .before .not-input .ensures) (c .refuse .ensures (a .mem .now) (a .journal .now) ∙ stopped (c .before .before .before .not-input .result) (a .m) (a .mem .now) (a .journal .now) _ (c .before .before .first-bad .result) (c .before .before .first-bad .ensures) (c .before .if1 .taken))
 
 give-requires : tie.Need-give-requires
+unfolding notInput
 give-requires c κs =
-    let b = c .before in
-    let i = b .before .before in
-    let f = i .before in
-    let n = f .before in
-    let a = n .before .before .before .args in
-    let g = input-good (a .channel) (sym (n .not-input .ensures) ∙ channel-good (n .not-input .result) (a .m) (a .mem .now) (a .journal .now) (sym (f .first-bad .ensures) ∙ i .if1 .left)) in
-    (omega (arith, g), search needs, (omega (arith, b .begin .ensures), omega (arith, b .begin .ensures)))
+    let a = c .before .before .before .before .before .before .before .before .before .before .before .args in
+    let g = input-good (a .channel) (sym (c .before .before .before .before .before .before .before .before .not-input .ensures) ∙ channel-good (c .before .before .before .before .before .before .before .before .not-input .result) (a .m) (a .mem .now) (a .journal .now) (sym (c .before .before .before .before .before .before .before .first-bad .ensures) ∙ c .before .before .before .before .before .before .if1 .left)) in
+    (omega (arith, g), search needs, (omega (arith, c .before .before .before .begin .ensures .1), omega (arith, c .before .before .before .begin .ensures .1)))
 
 commit-or-refuse-requires : tie.Need-commit-or-refuse-requires
 commit-or-refuse-requires c κs =
-    let v = c .before .before in
-    let b = v .before .before in
-    let i = b .before .before in
-    let f = i .before in
-    let n = f .before in
-    let S = n .before .before .before in
+    let S = c .before .before .before .before .before .before .before .before .before .before .before .before .before .before .before .before in
     let a = S .args in
-    let p = v .give .result in
-    let e = rw (b .begin .ensures .0) at (v .give .ensures .0) in
-    ready (n .not-input .result) (a .m) (a .mem .now) (a .journal .now) (sym (f .first-bad .ensures) ∙ i .if1 .left) p (give-known (a .m .regs) (long S) p (a .mem .now) (a .channel) (a .byte) e) (omega (arith, v .give .ensures .1, b .begin .ensures)) (omega (arith, v .give .ensures .1, b .begin .ensures))
+    let e = c .before .before .before .before .give .ensures .0 ∙ ap (links.give (a .mem .now) (a .channel) (a .byte)) (c .before .before .before .before .before .before .before .before .begin .ensures .0 (a .m .regs)) in
+    let r = ready (c .before .before .before .before .before .before .before .before .before .before .before .before .before .not-input .result) (a .m) (a .mem .now) (a .journal .now) (sym (c .before .before .before .before .before .before .before .before .before .before .before .before .first-bad .ensures) ∙ c .before .before .before .before .before .before .before .before .before .before .before .if1 .left) in
+    (give-known (a .m .regs) (long S) _ _ (a .mem .now) (a .channel) (a .byte) e, (omega (arith, c .before .before .before .before .give .ensures .1, c .before .before .before .before .before .before .before .before .begin .ensures .1), omega (arith, c .before .before .before .before .give .ensures .1, c .before .before .before .before .before .before .before .before .begin .ensures .1)), r .0, r .1, r .2)
 
 returns-2 : tie.Need-returns-2
 unfolding give
 returns-2 c =
-    let s = c .before .before .before .before in
-    let v = s .before .before .before in
-    let b = v .before .before in
-    let i = b .before .before in
-    let f = i .before in
-    let n = f .before in
-    let a = n .before .before .before .args in
-    rw (← n .not-input .ensures) ((rw (v .give .ensures .0, b .begin .ensures .0) at (s .commit-or-refuse .ensures)) ∙ passed (n .not-input .result) (a .m) (a .mem .now) (a .journal .now) (sym (f .first-bad .ensures) ∙ i .if1 .left) _)
+    let a = c .before .before .before .before .before .before .before .before .before .before .before .before .before .before .before .before .before .before .before .before .before .args in
+    rw (← c .before .before .before .before .before .before .before .before .before .before .before .before .before .before .before .before .before .before .not-input .ensures) ((rw (c .before .before .before .before .before .before .before .before .before .give .ensures .0, c .before .before .before .before .before .before .before .before .before .before .before .before .before .begin .ensures .0 (a .m .regs)) at (c .before .before .before .before .commit-or-refuse .ensures)) ∙ passed (c .before .before .before .before .before .before .before .before .before .before .before .before .before .before .before .before .before .before .not-input .result) (a .m) (a .mem .now) (a .journal .now) (sym (c .before .before .before .before .before .before .before .before .before .before .before .before .before .before .before .before .before .first-bad .ensures) ∙ c .before .before .before .before .before .before .before .before .before .before .before .before .before .before .before .before .if1 .left) _)
 
 pub give-spec : {M : Type 1} → statement M
-give-spec =
-    tie.close
-    (tie.spec
+give-spec = tie.close (tie.spec
     (λ c κs. search needs)
     (λ c κs. search needs)
     refuse-requires

@@ -1,12 +1,13 @@
+use borrow.Author.Needs.{needs}
 use native.Mathlib.Omega.{arith}
-use mathlib.Core.Path.{_≡_, sym, _∙_}
+use mathlib.Core.Path.{_≡_, sym, ap, _∙_}
 use Prim.Native.Nat.{_-_}
 use lib.ListN.{length}
 use Rattle.rules.specs.Registers.{registers}
+use Rattle.rules.specs.Links as links
 use Rattle.rules.specs.Calls.{take, notOutput}
 use Rattle.journal.proofs.Refusing.{number-known, stopped, passed, channel-good, output-good}
 use Rattle.journal.proofs.CommitOrRefuse.{ready, take-known}
-use borrow.Author.Needs.{needs}
 use Rattle.t414.proofs.take.Statement.{statement}
 use Rattle.t414.proofs.take.Tie as tie
 
@@ -15,72 +16,45 @@ long c = search needs
 
 refuse-requires : tie.Need-refuse-requires
 refuse-requires c κs =
-    let f = c .before in
-    let n = f .before in
-    let a = n .before .before .before .args in
-    omega (arith, f .first-bad .ensures, number-known (n .not-output .result) (a .m) (a .mem .now) (a .journal .now))
+    let a = c .before .before .before .before .before .args in
+    omega (arith, c .before .first-bad .ensures, number-known (c .before .before .not-output .result) (a .m) (a .mem .now) (a .journal .now))
 
 returns : tie.Need-returns
 unfolding take
 returns c =
-    let i = c .before in
-    let f = i .before in
-    let n = f .before in
-    let a = n .before .before .before .args in
-    rw (← n .not-output .ensures) (c .refuse .ensures (a .mem .now) (a .journal .now) ∙ stopped (n .not-output .result) (a .m) (a .mem .now) (a .journal .now) _ (f .first-bad .result) (f .first-bad .ensures) (i .if1 .taken))
+    let a = c .before .before .before .before .before .before .args in
+    rw (← c .before .before .before .not-output .ensures) (c .refuse .ensures (a .mem .now) (a .journal .now) ∙ stopped (c .before .before .before .not-output .result) (a .m) (a .mem .now) (a .journal .now) _ (c .before .before .first-bad .result) (c .before .before .first-bad .ensures) (c .before .if1 .taken))
 
 taken-requires : tie.Need-taken-requires
 unfolding notOutput
 taken-requires c κs =
-    let b = c .before in
-    let i = b .before .before in
-    let f = i .before in
-    let n = f .before in
-    let a = n .before .before .before .args in
-    let g = output-good (a .channel) (sym (n .not-output .ensures) ∙ channel-good (n .not-output .result) (a .m) (a .mem .now) (a .journal .now) (sym (f .first-bad .ensures) ∙ i .if1 .left)) in
-    (omega (arith, g), (omega (arith, b .begin .ensures), omega (arith, b .begin .ensures)))
+    let a = c .before .before .before .before .before .before .before .before .before .before .before .args in
+    let g = output-good (a .channel) (sym (c .before .before .before .before .before .before .before .before .not-output .ensures) ∙ channel-good (c .before .before .before .before .before .before .before .before .not-output .result) (a .m) (a .mem .now) (a .journal .now) (sym (c .before .before .before .before .before .before .before .first-bad .ensures) ∙ c .before .before .before .before .before .before .if1 .left)) in
+    (omega (arith, g), (omega (arith, c .before .before .before .begin .ensures .1), omega (arith, c .before .before .before .begin .ensures .1)))
 
 take-requires : tie.Need-take-requires
 unfolding notOutput
 take-requires c κs =
-    let b = c .before .before .before in
-    let i = b .before .before in
-    let f = i .before in
-    let n = f .before in
-    let a = n .before .before .before .args in
-    let g = output-good (a .channel) (sym (n .not-output .ensures) ∙ channel-good (n .not-output .result) (a .m) (a .mem .now) (a .journal .now) (sym (f .first-bad .ensures) ∙ i .if1 .left)) in
-    (omega (arith, g), (omega (arith, b .begin .ensures), omega (arith, b .begin .ensures)))
+    let a = c .before .before .before .before .before .before .before .before .before .before .before .before .before .before .before .args in
+    let g = output-good (a .channel) (sym (c .before .before .before .before .before .before .before .before .before .before .before .before .not-output .ensures) ∙ channel-good (c .before .before .before .before .before .before .before .before .before .before .before .before .not-output .result) (a .m) (a .mem .now) (a .journal .now) (sym (c .before .before .before .before .before .before .before .before .before .before .before .first-bad .ensures) ∙ c .before .before .before .before .before .before .before .before .before .before .if1 .left)) in
+    (omega (arith, g), (omega (arith, c .before .before .before .before .before .before .before .begin .ensures .1), omega (arith, c .before .before .before .before .before .before .before .begin .ensures .1)))
 
 commit-or-refuse-requires : tie.Need-commit-or-refuse-requires
 commit-or-refuse-requires c κs =
-    let v = c .before .before in
-    let b = v .before .before .before .before in
-    let i = b .before .before in
-    let f = i .before in
-    let n = f .before in
-    let S = n .before .before .before in
+    let S = c .before .before .before .before .before .before .before .before .before .before .before .before .before .before .before .before .before .before .before .before in
     let a = S .args in
-    let p = v .take .result in
-    let e = rw (b .begin .ensures .0) at (v .take .ensures .0) in
-    ready (n .not-output .result) (a .m) (a .mem .now) (a .journal .now) (sym (f .first-bad .ensures) ∙ i .if1 .left) p (take-known (a .m .regs) (long S) p (a .mem .now) (a .channel) e) (omega (arith, v .take .ensures .1, b .begin .ensures)) (omega (arith, v .take .ensures .1, b .begin .ensures))
+    let e = c .before .before .before .before .take .ensures .0 ∙ ap (links.take (a .mem .now) (a .channel)) (c .before .before .before .before .before .before .before .before .before .before .before .before .begin .ensures .0 (a .m .regs)) in
+    let r = ready (c .before .before .before .before .before .before .before .before .before .before .before .before .before .before .before .before .before .not-output .result) (a .m) (a .mem .now) (a .journal .now) (sym (c .before .before .before .before .before .before .before .before .before .before .before .before .before .before .before .before .first-bad .ensures) ∙ c .before .before .before .before .before .before .before .before .before .before .before .before .before .before .before .if1 .left) in
+    (take-known (a .m .regs) (long S) _ _ (a .mem .now) (a .channel) e, (omega (arith, c .before .before .before .before .take .ensures .1, c .before .before .before .before .before .before .before .before .before .before .before .before .begin .ensures .1), omega (arith, c .before .before .before .before .take .ensures .1, c .before .before .before .before .before .before .before .before .before .before .before .before .begin .ensures .1)), r .0, r .1, r .2)
 
 returns-2 : tie.Need-returns-2
 unfolding take
 returns-2 c =
-    let s = c .before .before .before .before in
-    let v = s .before .before .before in
-    let t = v .before .before in
-    let b = t .before .before in
-    let i = b .before .before in
-    let f = i .before in
-    let n = f .before in
-    let a = n .before .before .before .args in
-    rw (← n .not-output .ensures) ((rw (v .take .ensures .0, t .taken .ensures .0, b .begin .ensures .0) at (s .commit-or-refuse .ensures)) ∙ passed (n .not-output .result) (a .m) (a .mem .now) (a .journal .now) (sym (f .first-bad .ensures) ∙ i .if1 .left) _)
+    let a = c .before .before .before .before .before .before .before .before .before .before .before .before .before .before .before .before .before .before .before .before .before .before .before .before .before .args in
+    rw (← c .before .before .before .before .before .before .before .before .before .before .before .before .before .before .before .before .before .before .before .before .before .before .not-output .ensures) ((rw (c .before .before .before .before .before .before .before .before .before .take .ensures .0, c .before .before .before .before .before .before .before .before .before .before .before .before .before .taken .ensures .0, c .before .before .before .before .before .before .before .before .before .before .before .before .before .before .before .before .before .begin .ensures .0 (a .m .regs)) at (c .before .before .before .before .commit-or-refuse .ensures)) ∙ passed (c .before .before .before .before .before .before .before .before .before .before .before .before .before .before .before .before .before .before .before .before .before .before .not-output .result) (a .m) (a .mem .now) (a .journal .now) (sym (c .before .before .before .before .before .before .before .before .before .before .before .before .before .before .before .before .before .before .before .before .before .first-bad .ensures) ∙ c .before .before .before .before .before .before .before .before .before .before .before .before .before .before .before .before .before .before .before .before .if1 .left) _)
 
 pub take-spec : {M : Type 1} → statement M
-take-spec =
-    tie.close
-    (tie.spec
+take-spec = tie.close (tie.spec
     (λ c κs. search needs)
     (λ c κs. search needs)
     refuse-requires

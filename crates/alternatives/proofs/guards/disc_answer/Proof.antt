@@ -1,14 +1,18 @@
 use borrow.Author.Needs.{needs}
 use Rattle.rules.proofs.Tests.{yes-eq, no-eq}
 use Rattle.rules.specs.Channels.{discAnswer}
+use Rattle.rules.specs.Work.{put}
 use Rattle.alternatives.proofs.guards.disc_answer.Statement.{statement}
 use Rattle.alternatives.proofs.guards.disc_answer.Tie as tie
 
 pub disc-answer-spec : {M : Type 1} → statement M
-unfolding discAnswer
-disc-answer-spec =
-    tie.close (tie.spec
-    (λ c. search needs) (λ c. search needs) (λ c. search needs) (λ c. search needs) (λ c κs. search needs)
-    (λ c. (rw (yes-eq (c .before .if1 .taken)) (c .put .ensures .0), search needs))
+unfolding discAnswer put
+disc-answer-spec = tie.close (tie.spec
+    (λ c. search needs)
+    (λ c. search needs)
+    (λ c. search needs)
+    (λ c. search needs)
+    (λ c. search needs)
+    (λ c. (rw (yes-eq (c .if1 .taken)), search needs))
     (λ c κs. search needs)
-    (λ c. (rw (no-eq (c .before .if1 .left)) (c .is-this-selected-process .ensures .0), search needs)))
+    (λ c. (rw (no-eq (c .before .before .before .if1 .left)) (c .is-this-selected-process .ensures .0), search needs)))

@@ -5,14 +5,18 @@ use Rattle.channels.proofs.hard.hard_input_held.Tie as tie
 
 pub hard-input-held-spec : {M : Type 1} → statement M
 unfolding hardInputHeld
-hard-input-held-spec =
-    tie.close (tie.spec
-    (λ c. search needs) (λ c. search needs) (λ c κs. search needs) (λ c κs. search needs) (λ c κs. search needs) (λ c κs. search needs)
+hard-input-held-spec = tie.close (tie.spec
+    (λ c. search needs)
+    (λ c. search needs)
+    (λ c κs. search needs)
+    (λ c κs. search needs)
+    (λ c κs. search needs)
+    (λ c κs. search needs)
     (λ c. (
       rw (
-        ← c .before .before .before .hard-start .ensures .0,
-        ← c .before .before .lower .ensures .0,
-        ← c .before .meet-held .ensures .0,
-      ) (c .goto-snp .ensures .0),
+        ← c .before .before .before .before .before .before .before .hard-start .ensures .0,
+        ← c .before .before .before .before .before .lower .ensures,
+        ← c .before .before .meet-held .ensures .0,
+      ) (c .goto-snp .ensures _),
       search needs,
     )))

@@ -6,18 +6,23 @@ use Rattle.channels.proofs.outputs.output.Tie as tie
 
 pub output-spec : {M : Type 1} → statement M
 unfolding output
-output-spec =
-    tie.close (tie.spec
-    (λ c. search needs) (λ c κs. search needs) (λ c. search needs) (λ c κs. search needs)
-    (λ c. (rw (← c .before .before .index-of .ensures, yes-lt (c .before .if1 .taken)) (c .hard-output .ensures .0), search needs))
-    (λ c. search needs) (λ c κs. search needs) (λ c κs. search needs) (λ c κs. search needs) (λ c κs. search needs)
+output-spec = tie.close (tie.spec
+    (λ c. search needs)
+    (λ c κs. search needs)
+    (λ c. search needs)
+    (λ c κs. search needs)
+    (λ c. (rw (← c .before .before .before .before .index-of .ensures, yes-lt (c .before .before .before .if1 .taken)) (c .hard-output .ensures .0), search needs))
+    (λ c. search needs)
+    (λ c κs. search needs)
+    (λ c κs. search needs)
+    (λ c κs. search needs)
     (λ c. (
       rw (
-        ← c .before .before .before .before .before .before .index-of .ensures,
-        no-lt (c .before .before .before .before .before .if1 .left),
-        ← c .before .before .before .at-word .ensures,
-        ← c .before .before .word-at .ensures,
-        ← c .before .load-word .ensures .0,
+        ← c .before .before .before .before .before .before .before .before .index-of .ensures,
+        no-lt (c .before .before .before .before .before .before .before .if1 .left),
+        ← c .before .before .before .before .before .at-word .ensures,
+        ← c .before .before .before .load-word .ensures .0,
+        ← c .before .before .before .load-word .ensures .1,
       ) (c .soft-output .ensures .0),
       search needs,
     )))

@@ -6,9 +6,12 @@ use Rattle.links.proofs.transfers.notice_held.Tie as tie
 
 pub notice-held-spec : {M : Type 1} → statement M
 unfolding noticeHeld
-notice-held-spec =
-    tie.close (tie.spec
-    (λ c. search needs) (λ c. search needs) (λ c. search needs) (λ c. search needs)
-    (λ c. (rw (yes-eq (c .if1 .taken)), search needs))
-    (λ c κs. search needs) (λ c κs. search needs)
-    (λ c. (rw (no-eq (c .before .before .if1 .left), ← c .before .lower .ensures .0) (c .raise .ensures .0), search needs)))
+notice-held-spec = tie.close (tie.spec
+    (λ c. search needs)
+    (λ c. search needs)
+    (λ c. search needs)
+    (λ c. search needs)
+    (λ c. λ log. rw (yes-eq (c .if1 .taken)))
+    (λ c κs. search needs)
+    (λ c κs. search needs)
+    (λ c. λ log. rw (no-eq (c .before .before .before .before .if1 .left), ← c .before .before .lower .ensures) (c .raise .ensures _)))

@@ -6,51 +6,55 @@ use lib.ListN.{length, getD}
 use mathlib.Core.List.{List}
 use lib.Seq.{slice}
 use Rattle.rules.specs.Memory.{stores}
-use Rattle.plan.specs.View.{singles}
-use Rattle.memory.proofs.Logged.{through-here, through-past, through-none}
+use Rattle.memory.proofs.Held.{held-here, held-past, held-none}
+use Rattle.plan.specs.View.{singles, indicesOf, valuesOf}
 use Rattle.memory.proofs.through.latest.Statement.{statement}
 use Rattle.memory.proofs.through.latest.Tie as tie
 
 abbrev Inv-loop : tie.InvT-loop
-Inv-loop f t i v w k₀ k = (f ≤ k) × (k ≤ 16) × (length (w .ix) ≡ 16) × (length (w .vs) ≡ 16) × ((m : List ℕ) → getD (stores m (slice f t (singles (w .ix) (w .vs)))) i 0 ≡ getD (stores m (slice f k (singles (w .ix) (w .vs)))) i 0)
+Inv-loop g f t i v k₀ k = (f ≤ k) × (k ≤ 16) × ((m : List ℕ) → getD (stores m (slice f t (singles (indicesOf g) (valuesOf g)))) i 0 ≡ getD (stores m (slice f k (singles (indicesOf g) (valuesOf g)))) i 0)
 
 abbrev μ-loop : tie.MeasureT-loop
-μ-loop f t i v w k₀ k = k
+μ-loop g f t i v k₀ k = k
 
 loop-holds : tie.Need-loop-holds Inv-loop μ-loop
-loop-holds c = (search needs, search needs, search needs, search needs, λ m. refl)
+loop-holds c =
+    (search needs, search needs, λ m. refl)
 
 returns : tie.Need-returns Inv-loop μ-loop
 returns c =
-    λ m l e.
-    let L = c .before .before .before .before in
-    let a = L .before .args in
-    let inv = L .loop .inv in
-    sym (inv .4 m ∙ through-here (a .t1 .ix) (a .t1 .vs) (inv .2) (inv .3) m (a .i) (a .f) (L .loop .k) (omega arith) (omega arith) l (c .before .if1 .taken))
+    λ m b e.
+    let a = c .before .before .before .before .before .before .args in
+    let L = c .before .before .before .before .loop in
+    sym (L .inv .2 m ∙ held-here (a .log .now) (c .before .before .before .before .before .whole-log .ensures) m (a .i) (a .f) (L .k) (omega arith) (omega arith) b (c .before .if1 .taken))
 
 loop-again : tie.Need-loop-again Inv-loop μ-loop
 loop-again c =
-    let L = c .before .before .before in
-    let a = L .before .args in
-    let inv = L .loop .inv in
-    (omega arith, omega arith, inv .2, inv .3, λ m. inv .4 m ∙ through-past (a .t1 .ix) (a .t1 .vs) (inv .2) (inv .3) m (a .i) (a .f) (L .loop .k) (omega arith) (omega arith) (c .if1 .left))
+    let a = c .before .before .before .before .before .args in
+    let L = c .before .before .before .loop in
+    (omega arith, omega arith, λ m. L .inv .2 m ∙ held-past (a .log .now) (c .before .before .before .before .whole-log .ensures) m (a .i) (a .f) (L .k) (omega arith) (omega arith) (c .if1 .left))
 
 returns-2 : tie.Need-returns-2 Inv-loop μ-loop
 returns-2 c =
-    λ m l e.
-    let L = c .before in
-    let a = L .before .args in
-    let inv = L .loop .inv in
-    let z : a .f ≡ L .loop .k = omega arith in
-    sym (inv .4 m ∙ ap (λ (s : List ℕ). getD s (a .i) 0) (through-none (a .t1 .ix) (a .t1 .vs) (inv .2) (inv .3) m (a .f) (L .loop .k) z) ∙ e)
+    λ m b e.
+    let a = c .before .before .before .args in
+    let L = c .before .loop in
+    let z : a .f ≡ L .k = omega arith in
+    sym (L .inv .2 m ∙ ap (λ (s : List ℕ). getD s (a .i) 0) (held-none (a .log .now) (c .before .before .whole-log .ensures) m (a .f) (L .k) z) ∙ e)
 
 pub latest-spec : {M : Type 1} → statement M
-latest-spec =
-    tie.close (tie.spec
+latest-spec = tie.close (tie.spec
     Inv-loop
     μ-loop
+    (λ c κs. search needs)
     loop-holds
-    (λ c. search needs) (λ c. search needs) (λ c. search needs) (λ c. search needs) (λ c. search needs)
+    (λ c. search needs)
+    (λ c. search needs)
+    (λ c. search needs)
+    (λ c. search needs)
+    (λ c. search needs)
+    (λ c. search needs)
+    (λ c. search needs)
     returns
     (λ c. search needs)
     loop-again

@@ -6,9 +6,8 @@ use Rattle.processes.proofs.slices.slice_if_running.Tie as tie
 
 pub slice-if-running-spec : {M : Type 1} → statement M
 unfolding sliceIfRunning
-slice-if-running-spec =
-    tie.close (tie.spec
+slice-if-running-spec = tie.close (tie.spec
     (λ c. search needs)
     (λ c. (rw (yes-eq (c .if1 .taken)), search needs))
     (λ c κs. search needs)
-    (λ c. (rw (no-eq (c .before .if1 .left)) (c .slice-if-long .ensures .0), search needs)))
+    (λ c. (rw (no-eq (c .before .before .before .if1 .left)) (c .slice-if-long .ensures .0), search needs)))

@@ -6,9 +6,8 @@ use Rattle.processes.proofs.slices.time_slice.Tie as tie
 
 pub time-slice-spec : {M : Type 1} → statement M
 unfolding timeSlice
-time-slice-spec =
-    tie.close (tie.spec
+time-slice-spec = tie.close (tie.spec
     (λ c. search needs)
     (λ c. (rw (yes-eq (c .if1 .taken)), search needs))
     (λ c κs. search needs)
-    (λ c. (rw (no-eq (c .before .if1 .left)) (c .slice-if-running .ensures .0), search needs)))
+    (λ c. (rw (no-eq (c .before .before .before .if1 .left)) (c .slice-if-running .ensures .0), search needs)))

@@ -6,9 +6,8 @@ use Rattle.scheduling.proofs.flags.resumed.Tie as tie
 
 pub resumed-spec : {M : Type 1} → statement M
 unfolding resumed
-resumed-spec =
-    tie.close (tie.spec
+resumed-spec = tie.close (tie.spec
     (λ c. search needs)
-    (λ c. (rw (yes-eq (c .if1 .taken)), search needs))
+    (λ c. λ log. rw (yes-eq (c .if1 .taken)))
     (λ c κs. search needs)
-    (λ c. (rw (no-eq (c .before .if1 .left)) (c .clear-idle .ensures .0), search needs)))
+    (λ c. λ log. rw (no-eq (c .before .before .if1 .left)) (c .clear-idle .ensures _)))

@@ -5,4 +5,6 @@ use Rattle.scheduling.proofs.flags.set_idle.Tie as tie
 
 pub set-idle-spec : {M : Type 1} → statement M
 unfolding setIdle
-set-idle-spec = tie.close (tie.spec (λ c κs. search needs) (λ c. (c .raise .ensures .0, search needs)))
+set-idle-spec = tie.close (tie.spec
+    (λ c κs. search needs)
+    (λ c. λ log. c .raise .ensures _))

@@ -1,14 +1,19 @@
 use borrow.Author.Needs.{needs}
 use Rattle.rules.proofs.Tests.{yes-eq, no-eq}
 use Rattle.rules.specs.Scheduling.{linkBehind}
+use Rattle.rules.specs.Work.{put}
 use Rattle.scheduling.proofs.queues.link_behind.Statement.{statement}
 use Rattle.scheduling.proofs.queues.link_behind.Tie as tie
 
 pub link-behind-spec : {M : Type 1} → statement M
-unfolding linkBehind
-link-behind-spec =
-    tie.close (tie.spec
-    (λ c. search needs) (λ c. search needs) (λ c κs. search needs)
-    (λ c. (rw (yes-eq (c .before .if1 .taken)) (c .put .ensures .0), search needs))
-    (λ c. search needs) (λ c. search needs) (λ c κs. search needs)
-    (λ c. (rw (no-eq (c .before .before .if1 .left)) (c .w-index-word .ensures .0), search needs)))
+unfolding linkBehind put
+link-behind-spec = tie.close (tie.spec
+    (λ c. search needs)
+    (λ c. search needs)
+    (λ c. search needs)
+    (λ c. search needs)
+    (λ c. (rw (yes-eq (c .if1 .taken)), search needs))
+    (λ c. search needs)
+    (λ c. search needs)
+    (λ c κs. search needs)
+    (λ c. (rw (no-eq (c .before .before .before .if1 .left)) (c .w-index-word .ensures .0 _), search needs)))

@@ -10,4 +10,4 @@ operate-spec =
     (λ c κs. search needs) (λ c κs. search needs)
     (λ c. rw (← c .before .before .register-operation .ensures, c .before .if1 .taken) (c .finish-if-same-status .ensures))
     (λ c κs. search needs)
-    (λ c. rw (← c .before .before .register-operation .ensures, c .before .if1 .left) (c .decline .ensures)))
+    (λ c. rw (← c .before .before .register-operation .ensures, c .before .if1 .left) (c .memory-operation .ensures)))

@@ -9,51 +9,48 @@ use Rattle.timers.proofs.insertion.insert_walk.Statement.{statement}
 use Rattle.timers.proofs.insertion.insert_walk.Tie as tie
 
 abbrev Inv-loop : tie.InvT-loop
-Inv-loop mem turns time previous at₀ place₀ left₀ at place left =
-    (insertWalk mem turns time previous (view at₀) ≡ insertWalk mem left time place (view at)) × Grown 0 at₀ at
+Inv-loop regs₀ log₀ mem turns time previous place₀ left₀ regs log place left =
+    (insertWalk mem turns time previous (view regs₀ log₀) ≡ insertWalk mem left time place (view regs log)) × Grown 0 log₀ log
 
 abbrev μ-loop : tie.MeasureT-loop
-μ-loop mem turns time previous at₀ place₀ left₀ at place left = left
+μ-loop regs₀ log₀ mem turns time previous place₀ left₀ regs log place left = left
 
 loop-holds : tie.Need-loop-holds Inv-loop μ-loop
 loop-holds c = (refl, search needs)
 
 returns : tie.Need-returns Inv-loop μ-loop
 returns c =
-    let e = c .before .before in
-    let l = e .before .before .before .loop in
-    (c .insert-final-step .ensures .0 ∙ sym (l .inv .0 ∙ insert-end _ _ _ (l .left - 1) _ _ _ _ (omega arith) (e .before .word-at .ensures) (e .load-word .ensures .0) (c .before .if1 .taken)), search needs)
+    let l = c .before .before .before .before .before .before .before .loop in
+    (c .insert-final-step .ensures .0 ∙ sym (l .inv .0 ∙ insert-end _ _ _ (l .left - 1) _ _ _ _ (omega arith) (c .before .before .before .before .load-word .ensures .0 (l .regs)) (c .before .before .before .before .load-word .ensures .1 (l .regs)) (c .before .before .before .if1 .taken)), search needs)
 
 loop-again : tie.Need-loop-again Inv-loop μ-loop
 loop-again c =
-    let b = c .before .before in
-    let f = b .before .before .before .before in
-    let e = f .before in
-    let l = e .before .before .before .loop in
-    (l .inv .0 ∙ insert-on _ _ _ (l .left - 1) _ _ _ _ (omega arith) (e .before .word-at .ensures) (e .load-word .ensures .0) _ _ _ (f .if1 .left) (b .before .before .before .at-word .ensures) (b .before .before .word-at2 .ensures) (b .before .load-word2 .ensures .0) _ (c .at-word2 .ensures) (sym (b .later .ensures) ∙ c .before .if2 .taken), search needs)
+    let l = c .before .before .before .before .before .before .before .before .before .before .loop in
+    (l .inv .0 ∙ insert-on _ _ _ (l .left - 1) _ _ _ _ (omega arith) (c .before .before .before .before .before .before .before .load-word .ensures .0 (l .regs)) (c .before .before .before .before .before .before .before .load-word .ensures .1 (l .regs)) _ _ _ (c .before .before .before .before .before .before .if1 .left) (c .before .before .before .before .before .at-word .ensures) (c .before .before .before .load-word2 .ensures .0 (l .regs)) (c .before .before .before .load-word2 .ensures .1 (l .regs)) _ (c .at-word2 .ensures) (sym (c .before .before .later .ensures) ∙ c .before .if2 .taken), search needs)
 
 returns-2 : tie.Need-returns-2 Inv-loop μ-loop
 returns-2 c =
-    let b = c .before .before in
-    let f = b .before .before .before .before in
-    let e = f .before in
-    let l = e .before .before .before .loop in
-    (c .insert-final-step2 .ensures .0 ∙ sym (l .inv .0 ∙ insert-here _ _ _ (l .left - 1) _ _ _ _ (omega arith) (e .before .word-at .ensures) (e .load-word .ensures .0) _ _ _ (f .if1 .left) (b .before .before .before .at-word .ensures) (b .before .before .word-at2 .ensures) (b .before .load-word2 .ensures .0) (sym (b .later .ensures) ∙ c .before .if2 .left)), search needs)
+    let l = c .before .before .before .before .before .before .before .before .before .before .before .before .loop in
+    (c .insert-final-step2 .ensures .0 ∙ sym (l .inv .0 ∙ insert-here _ _ _ (l .left - 1) _ _ _ _ (omega arith) (c .before .before .before .before .before .before .before .before .before .load-word .ensures .0 (l .regs)) (c .before .before .before .before .before .before .before .before .before .load-word .ensures .1 (l .regs)) _ _ _ (c .before .before .before .before .before .before .before .before .if1 .left) (c .before .before .before .before .before .before .before .at-word .ensures) (c .before .before .before .before .before .load-word2 .ensures .0 (l .regs)) (c .before .before .before .before .before .load-word2 .ensures .1 (l .regs)) (sym (c .before .before .before .before .later .ensures) ∙ c .before .before .before .if2 .left)), search needs)
 
 returns-3 : tie.Need-returns-3 Inv-loop μ-loop
 returns-3 c =
-    let l = c .before .before .loop in
-    (c .refuse .ensures .0 ∙ sym (l .inv .0 ∙ insert-out _ _ _ _ _ (omega arith)), search needs)
+    let l = c .before .before .before .loop in
+    (c .refuse .ensures .0 _ ∙ sym (l .inv .0 ∙ insert-out _ _ _ _ _ (omega arith)), search needs)
 
 pub insert-walk-spec : {M : Type 1} → statement M
-insert-walk-spec =
-    tie.close (tie.spec
+insert-walk-spec = tie.close (tie.spec
     Inv-loop
     μ-loop
     loop-holds
-    (λ c κs. search needs) (λ c κs. search needs) (λ c κs. search needs)
+    (λ c κs. search needs)
+    (λ c κs. search needs)
     returns
-    (λ c κs. search needs) (λ c κs. search needs) (λ c κs. search needs) (λ c κs. search needs) (λ c κs. search needs) (λ c. search needs)
+    (λ c κs. search needs)
+    (λ c κs. search needs)
+    (λ c κs. search needs)
+    (λ c κs. search needs)
+    (λ c. search needs)
     (λ c. search needs)
     loop-again
     (λ c κs. search needs)
