@@ -10,9 +10,8 @@ use Rattle.rules.specs.Registers.{registers}
 use Rattle.rules.specs.Work.{Work, begin}
 use Rattle.rules.specs.Links as links
 use Rattle.rules.specs.Step as steps
-use Rattle.rules.specs.Memory.{stores, touched}
 use Rattle.rules.specs.Journal.{boundsBad}
-use Rattle.rules.specs.Calls.{Outcome, refused, memorySizeBad, journalSizeBad, sizeBad, recorded, commitOrRefuse, clear, machineOf, undo, undoLast}
+use Rattle.rules.specs.Calls.{Outcome, refused, memorySizeBad, journalSizeBad, sizeBad, clear, machineOf, undo, undoLast}
 use Rattle.rules.specs.declared.Machine.{Machine}
 use Rattle.rules.proofs.Tests.{yes-eq, no-eq}
 use Rattle.laws.proofs.Fine.{Fine, Known, fine-begin}
@@ -36,13 +35,12 @@ ready badChannel m mem j h =
 known-of : (regs log : List ℕ) (w : Work) → view regs log ≡ w → Fine Known w → answerOf log ≤ 12
 known-of regs log w e f = omega (arith, ap (λ (x : Work). x .answer) e, f .known)
 
+pub step-known : (old : List ℕ) → length old ≡ registers → (mem : List ℕ) → steps.step mem (begin old) .answer ≤ 12
+step-known old h mem =
+    omega (arith, fine-step mem (λ k a z kind address. omega arith) (λ k a z kind address. omega arith) (λ k a z kind address. omega arith) (λ k a z kind address. omega arith) (fine-begin old h) .known)
+
 -- old are the registers before the call
 module _ (old : List ℕ) (h : length old ≡ registers) (regs log : List ℕ) where
-  pub step-known : (mem : List ℕ) → view regs log ≡ steps.step mem (begin old) → answerOf log ≤ 12
-  step-known mem e =
-      known-of regs log (steps.step mem (begin old)) e
-      (fine-step mem (λ k a z kind address. omega arith) (λ k a z kind address. omega arith) (λ k a z kind address. omega arith) (λ k a z kind address. omega arith) (fine-begin old h))
-
   pub event-known : view regs log ≡ links.event (begin old) → answerOf log ≤ 12
   event-known e = known-of regs log (links.event (begin old)) e (fine-event (λ k a z kind address. omega arith) (fine-begin old h))
 
@@ -53,17 +51,6 @@ module _ (old : List ℕ) (h : length old ≡ registers) (regs log : List ℕ) w
   pub give-known : (mem : List ℕ) (c byte : ℕ) → view regs log ≡ links.give mem c byte (begin old) → answerOf log ≤ 12
   give-known mem c byte e =
       known-of regs log (links.give mem c byte (begin old)) e (fine-give mem c byte (λ k a z kind address. omega arith) (fine-begin old h))
-
-module _ (m : Machine) (mem j : List ℕ) (byte : ℕ) (w : Work) where
-  pub commit-or-refuse-refused : (w .answer ≡ 0 → ⊥) → refused (w .answer) m mem j ≡ commitOrRefuse m mem j byte w
-  unfolding commitOrRefuse
-  commit-or-refuse-refused h = rw (no-eq h)
-
-  pub commit-or-refuse-done :
-      w .answer ≡ 0
-      → recorded m mem j byte (w .regs) (touched (length mem) (w .stored)) (stores mem (w .stored)) ≡ commitOrRefuse m mem j byte w
-  unfolding commitOrRefuse
-  commit-or-refuse-done h = rw (yes-eq h)
 
 -- ---- undo and clear
 

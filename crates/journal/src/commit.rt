@@ -1,53 +1,44 @@
-// Commits a plan: writes its record, makes its stores (01, The journal). journal_small commits a call that makes no plan.
+// Commits a plan (01, The journal): writes the pairs of its record, makes its stores. The caller ends the record (journal_record::record) and makes
+// the reply, so that registers are written once. journal_small commits a call that makes no plan.
 use crate::stores;
 use journal_record::bounds;
-use journal_record::bounds::EMPTY_RECORD;
-use journal_record::record;
+use journal_record::parts::put_pairs;
 use journal_record::touched;
+use plan::ANSWER;
 use plan::LOG;
-use rules::Answer;
-use rules::Machine;
-use rules::REGISTERS;
-use rules::Reply;
+use rules::names::*;
 ghost use mathlib.Core.Path.{_≡_};
-ghost use mathlib.Core.Bool.{false};
 ghost use Prim.Native.Nat.{_≤_};
 ghost use lib.ListN.{length};
-ghost use Rattle.rules.specs.Memory.{stores, touched};
 ghost use Rattle.rules.specs.Journal as journalRules;
-ghost use Rattle.rules.specs.Calls.{outcomeOf, recorded};
-ghost use Rattle.plan.specs.View.{storesOf, Room};
+ghost use Rattle.plan.specs.View.{answerOf, storesOf, Room};
+ghost use Rattle.journal.specs.Effect.{effectOf, committed};
 
-// Commits a plan: writes its record at used, then makes its stores. Refuses with JournalFull where the record does not fit.
-pub fn commit(
-    m: Machine,
-    regs: &[u32; REGISTERS],
-    log: &[u32; LOG],
-    byte: u8,
-    mem: &mut [u32],
-    journal: &mut [u32],
-) -> Reply
-    requires { ⌜ Room 0 (now log) × (length (now mem) ≤ 16384) × (length (now journal) ≤ 65536) × (journalRules.boundsBad (length (now journal)) (m .depth) (m .used) ≡ false) ⌝ }
-    ensures { λ r. ⌜ outcomeOf r (now (mem .exit)) (now (journal .exit)) ≡ recorded m (now (mem .entry)) (now (journal .entry)) byte (now (regs .entry)) (touched (length (now (mem .entry))) (storesOf (now (log .entry)))) (stores (now (mem .entry)) (storesOf (now (log .entry)))) ⌝ }
+// The result of a commit: the number of the refusal, or 0; and the number of pairs.
+pub struct Committed {
+    pub number: u32,
+    pub count: usize,
+}
+
+// Writes the pairs at used and makes the stores. Does nothing where the plan is refused, or where its record does not fit (JournalFull).
+pub fn commit(log: &[u32; LOG], used: usize, mem: &mut [u32], journal: &mut [u32]) -> Committed
+    requires { ⌜ Room 0 (now log) × (length (now mem) ≤ 16384) × (length (now journal) ≤ 65536) × (used ≤ length (now journal)) ⌝ }
+    ensures { λ r. ⌜ effectOf r (now (mem .exit)) (now (journal .exit)) ≡ committed (journalRules.olds (now (mem .entry))) used (now (mem .entry)) (now (journal .entry)) (answerOf (now (log .entry))) (storesOf (now (log .entry))) ⌝ }
 {
-    let used = m.used;
-    let depth = m.depth;
-    let o = touched::outline_of(log, mem.len());
+    let number = log[ANSWER];
+    if number != 0 {
+        return Committed { number, count: 0 };
+    }
+    let mut ix = [0u32; 16];
+    let o = touched::outline_of(&mut ix, log, mem.len());
     let count = o.count;
     if bounds::is_full(journal.len(), used, count) {
-        return bounds::refusal(m, Answer::JournalFull);
+        return Committed {
+            number: JOURNAL_FULL,
+            count: 0,
+        };
     }
-    let old = m.regs;
-    record::append(journal, mem, o, old, used);
+    put_pairs(journal, mem, &ix, o, used);
     stores::make(mem, log);
-    let machine = Machine {
-        regs: *regs,
-        depth: depth + 1,
-        used: used + (EMPTY_RECORD + 2 * count),
-    };
-    Reply {
-        machine,
-        answer: Answer::Done,
-        byte,
-    }
+    Committed { number: 0, count }
 }

@@ -1,8 +1,10 @@
 // The outcome of a plan after the checks: a refusal by its number, or a commit.
 use crate::checks::refuse;
 use crate::commit;
-use plan::ANSWER;
+use journal_record::bounds::EMPTY_RECORD;
+use journal_record::record::put_tail;
 use plan::LOG;
+use rules::Answer;
 use rules::Machine;
 use rules::REGISTERS;
 use rules::Reply;
@@ -14,7 +16,7 @@ ghost use Rattle.rules.specs.Journal.{boundsBad};
 ghost use Rattle.rules.specs.Calls.{outcomeOf, commitOrRefuse};
 ghost use Rattle.plan.specs.View.{view, answerOf, Room};
 
-// Refuses a plan that has a refusal, with its number; commits any other.
+// Commits a plan and ends its record, or refuses with its number. For take, give and event; step_engine does the same for a step.
 pub fn commit_or_refuse(
     m: Machine,
     regs: &[u32; REGISTERS],
@@ -26,8 +28,23 @@ pub fn commit_or_refuse(
     requires { ⌜ (answerOf (now log) ≤ 12) × Room 0 (now log) × (length (now mem) ≤ 16384) × (length (now journal) ≤ 65536) × (boundsBad (length (now journal)) (m .depth) (m .used) ≡ false) ⌝ }
     ensures { λ r. ⌜ outcomeOf r (now (mem .exit)) (now (journal .exit)) ≡ commitOrRefuse m (now (mem .entry)) (now (journal .entry)) byte (view (now (regs .entry)) (now (log .entry))) ⌝ }
 {
-    if log[ANSWER] != 0 {
-        return refuse(m, log[ANSWER]);
+    let used = m.used;
+    let t = commit::commit(log, used, mem, journal);
+    let number = t.number;
+    if number != 0 {
+        return refuse(m, number);
     }
-    commit::commit(m, regs, log, byte, mem, journal)
+    let count = t.count;
+    let old = m.regs;
+    put_tail(journal, old, count as u32, used + 2 * count);
+    let machine = Machine {
+        regs: *regs,
+        depth: m.depth + 1,
+        used: used + (EMPTY_RECORD + 2 * count),
+    };
+    Reply {
+        machine,
+        answer: Answer::Done,
+        byte,
+    }
 }

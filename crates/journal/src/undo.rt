@@ -1,5 +1,4 @@
 // Undo (01, The journal): tests the pairs of the last record, writes them back, takes the registers out of it.
-use journal_record::bounds;
 use journal_record::bounds::EMPTY_RECORD;
 use rules::Answer;
 use rules::Machine;
@@ -12,6 +11,7 @@ ghost use lib.ListN.{length, take, drop};
 ghost use Rattle.rules.specs.Registers.{registers};
 ghost use Rattle.rules.specs.Journal as journalRules;
 ghost use Rattle.rules.specs.Calls.{outcomeOf, undoLast};
+ghost use Rattle.journal.specs.LastRecord.{recordBad};
 
 // Tests for JournalBad: one of the n pairs at a place has an index outside a memory of size words.
 pub fn strays(journal: &[u32], at: usize, n: usize, size: usize) -> bool
@@ -63,24 +63,30 @@ pub fn get_regs(journal: &[u32], at: usize) -> [u32; REGISTERS]
     regs
 }
 
-// Undoes the last record: restores registers and memory as before that call. Writes no journal word. Refuses with JournalBad where
-// the record is longer than used or has an index outside memory.
+// Tests for JournalBad: the last record is longer than used, or has an index outside a memory of so many words.
+pub fn record_bad(journal: &[u32], used: usize, words: usize) -> bool
+    requires { ⌜ (0 < used) × (used ≤ length (now journal)) ⌝ }
+    ensures { λ r. ⌜ r ≡ recordBad (now (journal .entry)) used words ⌝ }
+{
+    let last = used - 1;
+    let pairs = journal[last] as usize;
+    let size = EMPTY_RECORD + 2 * pairs;
+    if used < size {
+        return true;
+    }
+    strays(journal, used - size, pairs, words)
+}
+
+// Undoes the last record: restores registers and memory as before that call. Writes no journal word.
 pub fn undo_last(m: Machine, mem: &mut [u32], journal: &[u32]) -> Reply
-    requires { ⌜ (journalRules.boundsBad (length (now journal)) (m .depth) (m .used) ≡ false) × (0 < m .depth) ⌝ }
+    requires { ⌜ (journalRules.boundsBad (length (now journal)) (m .depth) (m .used) ≡ false) × (0 < m .depth) × (recordBad (now journal) (m .used) (length (now mem)) ≡ false) ⌝ }
     ensures { λ r. ⌜ outcomeOf r (now (mem .exit)) (now (journal .entry)) ≡ undoLast m (now (mem .entry)) (now (journal .entry)) ⌝ }
 {
     let used = m.used;
     let depth = m.depth;
     let last = used - 1;
     let pairs = journal[last] as usize;
-    let size = EMPTY_RECORD + 2 * pairs;
-    if used < size {
-        return bounds::refusal(m, Answer::JournalBad);
-    }
-    let start = used - size;
-    if strays(journal, start, pairs, mem.len()) {
-        return bounds::refusal(m, Answer::JournalBad);
-    }
+    let start = used - (EMPTY_RECORD + 2 * pairs);
     write_back(mem, journal, start, pairs);
     let regs = get_regs(journal, used - EMPTY_RECORD);
     let machine = Machine {

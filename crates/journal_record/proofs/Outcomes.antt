@@ -10,28 +10,10 @@ use Rattle.rules.specs.Registers.{registers}
 use Rattle.rules.specs.Journal.{recordLength, recordOf, lastPairs, lastStart, lastRegs, pairsAt, writeBack, strays}
 use Rattle.rules.specs.Calls.{numberOf, outcomeOf, refused, machineOf, recorded, undone, undoLast}
 use Rattle.rules.specs.declared.Machine.{Machine}
-use Rattle.rules.specs.declared.Reply.{Reply}
-use Rattle.rules.specs.declared.Answer.{Answer}
-use Rattle.rules.specs.declared.Answer.the-variants.{Done, JournalBad, JournalFull}
+use Rattle.rules.specs.declared.Answer.the-variants.{Done}
 use Rattle.rules.proofs.Tests.{yes-lt, no-lt, yes, no}
 
--- the outcome of a reply that changes nothing
-pub refusal-is :
-    (r : Reply) (m : Machine) (mem j : List ℕ) (a : Answer)
-    → (r .machine ≡ m) × (r .answer ≡ a) × (r .byte ≡ 0)
-    → outcomeOf r mem j ≡ refused (numberOf a) m mem j
-refusal-is r m mem j a e =
-    λ i. record { answer = numberOf (e .1 i); byte = e .2 i; machine = e .0 i; memory = mem; journal = j }
-
-pub number-full : numberOf JournalFull ≡ 12
-unfolding numberOf
-number-full = refl
-
-pub number-bad : numberOf JournalBad ≡ 4
-unfolding numberOf
-number-bad = refl
-
-number-done : numberOf Done ≡ 0
+pub number-done : numberOf Done ≡ 0
 unfolding numberOf
 number-done = refl
 

@@ -1,8 +1,5 @@
-// Bounds of the journal (01, The journal): of used and depth, and of the room for a record. And the reply of a refused call.
-use rules::Answer;
-use rules::Machine;
+// Bounds of the journal (01, The journal): of used and depth, and of the room for a record.
 use rules::REGISTERS;
-use rules::Reply;
 ghost use mathlib.Core.Path.{_≡_};
 ghost use Prim.Native.Nat.{_+_, _≤_};
 ghost use lib.Dec.{ltb};
@@ -27,15 +24,4 @@ pub fn is_full(size: usize, used: usize, n: usize) -> bool
     ensures { λ r. ⌜ r ≡ ltb size (used + journalRules.recordLength n) ⌝ }
 {
     size - used < EMPTY_RECORD + 2 * n
-}
-
-// Builds the reply of a refused call: the machine unchanged, byte 0.
-pub fn refusal(m: Machine, answer: Answer) -> Reply
-    ensures { λ r. ⌜ (r .machine ≡ m) × (r .answer ≡ answer) × (r .byte ≡ 0) ⌝ }
-{
-    Reply {
-        machine: m,
-        answer,
-        byte: 0,
-    }
 }

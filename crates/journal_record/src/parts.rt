@@ -1,6 +1,7 @@
 // The parts of a record (01, The journal): a pair for each word stored to, which is its index and its value before the call;
 // and the registers before the call.
 use crate::touched::Outline;
+use crate::touched::whole_indices;
 use rules::REGISTERS;
 ghost use mathlib.Core.Path.{_≡_};
 ghost use Prim.Native.Nat.{_+_, _-_, _*_, _≤_};
@@ -12,14 +13,12 @@ ghost use Rattle.laws.specs.Lists.{Below};
 ghost use Rattle.journal_record.specs.Indices.{range};
 ghost use Rattle.journal_record.specs.Outline.{Outlined, listed};
 
-// The number of registers in the first of two copies.
-const HALF: usize = (REGISTERS + 1) / 2;
-
 // Writes the pairs of the words ix[f..t].
-fn put_single_pairs(journal: &mut [u32], mem: &[u32], ix: [u32; 16], f: usize, t: usize, at: usize)
-    requires { ⌜ (f ≤ t) × (t ≤ 16) × (at + 2 * (t - f) ≤ length (now journal)) × Below (length (now mem)) (slice f t ix) ⌝ }
-    ensures { λ _. ⌜ now (journal .exit) ≡ sets (now (journal .entry)) at (journalRules.olds (now (mem .entry)) (slice f t ix)) ⌝ }
+fn put_single_pairs(journal: &mut [u32], mem: &[u32], ix: &[u32; 16], f: usize, t: usize, at: usize)
+    requires { ⌜ (f ≤ t) × (t ≤ 16) × (at + 2 * (t - f) ≤ length (now journal)) × Below (length (now mem)) (slice f t (now ix)) ⌝ }
+    ensures { λ _. ⌜ now (journal .exit) ≡ sets (now (journal .entry)) at (journalRules.olds (now (mem .entry)) (slice f t (now (ix .entry)))) ⌝ }
 {
+    whole_indices(ix);
     let mut w = at;
     let mut k = f;
     while k < t {
@@ -52,11 +51,10 @@ fn put_range_pairs(journal: &mut [u32], mem: &[u32], lo: usize, count: usize, at
 }
 
 // Writes the pairs of the single words below the range, then of the range.
-fn put_front_pairs(journal: &mut [u32], mem: &[u32], o: Outline, at: usize)
-    requires { ⌜ Outlined (length (now mem)) o × (length (now mem) ≤ 16384) × (at + 2 * (o .low + o .c) ≤ length (now journal)) ⌝ }
-    ensures { λ _. ⌜ now (journal .exit) ≡ sets (sets (now (journal .entry)) at (journalRules.olds (now (mem .entry)) (take (o .low) (o .ix)))) (at + 2 * o .low) (journalRules.olds (now (mem .entry)) (range (o .lo) (o .c))) ⌝ }
+fn put_front_pairs(journal: &mut [u32], mem: &[u32], ix: &[u32; 16], o: Outline, at: usize)
+    requires { ⌜ Outlined (length (now mem)) (now ix) o × (length (now mem) ≤ 16384) × (at + 2 * (o .low + o .c) ≤ length (now journal)) ⌝ }
+    ensures { λ _. ⌜ now (journal .exit) ≡ sets (sets (now (journal .entry)) at (journalRules.olds (now (mem .entry)) (take (o .low) (now (ix .entry))))) (at + 2 * o .low) (journalRules.olds (now (mem .entry)) (range (o .lo) (o .c))) ⌝ }
 {
-    let ix = o.ix;
     let low = o.low;
     let lo = o.lo;
     let c = o.c;
@@ -66,38 +64,28 @@ fn put_front_pairs(journal: &mut [u32], mem: &[u32], o: Outline, at: usize)
 }
 
 // Writes the pairs of all words of an outline.
-pub fn put_pairs(journal: &mut [u32], mem: &[u32], o: Outline, at: usize)
-    requires { ⌜ Outlined (length (now mem)) o × (length (now mem) ≤ 16384) × (at + 2 * o .count ≤ length (now journal)) ⌝ }
-    ensures { λ _. ⌜ now (journal .exit) ≡ sets (now (journal .entry)) at (journalRules.olds (now (mem .entry)) (listed o)) ⌝ }
+pub fn put_pairs(journal: &mut [u32], mem: &[u32], ix: &[u32; 16], o: Outline, at: usize)
+    requires { ⌜ Outlined (length (now mem)) (now ix) o × (length (now mem) ≤ 16384) × (at + 2 * o .count ≤ length (now journal)) ⌝ }
+    ensures { λ _. ⌜ now (journal .exit) ≡ sets (now (journal .entry)) at (journalRules.olds (now (mem .entry)) (listed (now (ix .entry)) o)) ⌝ }
 {
-    let ix = o.ix;
+    whole_indices(ix);
     let mid = o.mid;
     let end = o.end;
     let next = at + 2 * (o.low + o.c);
-    put_front_pairs(journal, mem, o, at);
+    put_front_pairs(journal, mem, ix, o, at);
     put_single_pairs(journal, mem, ix, mid, end, next);
 }
 
-// Writes the registers f..t.
-fn put_reg_range(journal: &mut [u32], regs: [u32; REGISTERS], f: usize, t: usize, at: usize)
-    requires { ⌜ (f ≤ t) × (t ≤ registers) × (at + (t - f) ≤ length (now journal)) ⌝ }
-    ensures { λ _. ⌜ now (journal .exit) ≡ sets (now (journal .entry)) at (slice f t regs) ⌝ }
-{
-    let mut w = at;
-    let mut k = f;
-    while k < t {
-        journal[w] = regs[k];
-        w += 1;
-        k += 1;
-    }
-}
-
-// Writes the registers in two copies: a copy of up to 128 bytes is compiled to moves, a longer one to a call.
+// Writes the registers.
 pub fn put_regs(journal: &mut [u32], regs: [u32; REGISTERS], at: usize)
     requires { ⌜ at + registers ≤ length (now journal) ⌝ }
     ensures { λ _. ⌜ now (journal .exit) ≡ sets (now (journal .entry)) at regs ⌝ }
 {
-    let next = at + HALF;
-    put_reg_range(journal, regs, 0, HALF, at);
-    put_reg_range(journal, regs, HALF, REGISTERS, next);
+    let mut w = at;
+    let mut k = 0;
+    while k < REGISTERS {
+        journal[w] = regs[k];
+        w += 1;
+        k += 1;
+    }
 }

@@ -9,9 +9,9 @@ use lib.ListN.{length, getD, set}
 use lib.Seq.{sets}
 use Rattle.rules.specs.Registers.{registers, withCore}
 use Rattle.rules.specs.Memory.{touched, stores}
-use Rattle.rules.specs.Journal.{olds, recordOf}
-use Rattle.rules.specs.Work.{begin}
-use Rattle.rules.specs.Calls.{machineOf, recorded, commitOrRefuse}
+use Rattle.rules.specs.Journal.{recordLength, olds, recordOf}
+use Rattle.rules.specs.Work.{Work, begin}
+use Rattle.rules.specs.Calls.{refused, recorded, commitOrRefuse}
 use Rattle.rules.specs.declared.Machine.{Machine}
 use Rattle.rules.proofs.Tests.{yes-lt, no-lt, yes-eq, cases-lt, cases-eq}
 use Rattle.step_fast.specs.declared.FastStep.{FastStep}
@@ -20,19 +20,10 @@ use Rattle.laws.proofs.Single.{touched-none, touched-one, touched-past, stores-
 use Rattle.journal_record.specs.Indices.{range}
 use Rattle.journal_record.proofs.Sorting.{range-length}
 use Rattle.journal_record.proofs.Written.{sets-append}
+use Rattle.journal_record.proofs.Outcomes.{commit-full}
 use Rattle.laws.proofs.Touched.{length-olds}
 use Rattle.journal_small.specs.Count.{Counted, made}
 use Rattle.journal_small.proofs.Frame.{touched-frame, made-frame}
-
--- a machine by its parts
-pub machine-is : (x : Machine) (regs : List ℕ) (d u : ℕ) → (x .regs ≡ regs) × (x .depth ≡ d) × (x .used ≡ u) → x ≡ machineOf regs d u
-machine-is x regs d u e = λ i. record { regs = e .0 i; depth = e .1 i; used = e .2 i }
-
--- the registers, then the number of pairs
-pub tail-written : (j regs : List ℕ) (at n : ℕ) → length regs ≡ registers → set (sets j at regs) (at + registers) n ≡ sets j at (regs ++ (n ∷ []))
-tail-written j regs at n h =
-    let b : at + length regs ≡ at + registers = omega arith in
-    sym (rw (sets-append j at regs (n ∷ []), b))
 
 -- ---- the words that a common step stores to
 
@@ -181,3 +172,13 @@ none-written j mem regs at = refl
 pub regs-outcome : (m : Machine) (mem j regs : List ℕ) → recorded m mem j 0 regs [] mem ≡ commitOrRefuse m mem j 0 (begin regs)
 unfolding commitOrRefuse
 regs-outcome m mem j regs = rw (yes-eq {a = 0} {b = 0} refl, touched-none (length mem), stores-no mem)
+
+-- a call that stores nothing is refused where a record without pairs does not fit
+pub bare-refused :
+    (m : Machine) (mem j : List ℕ) (w : Work)
+    → (w .answer ≡ 0) × (w .stored ≡ [])
+    → length j < m .used + recordLength 0
+    → refused 12 m mem j ≡ commitOrRefuse m mem j 0 w
+unfolding commitOrRefuse
+bare-refused m mem j w e h =
+    rw (yes-eq (e .0), e .1, touched-none (length mem)) (commit-full m mem j 0 (w .regs) [] (stores mem []) h)

@@ -3,8 +3,7 @@
 // rules/specs/Calls.antt.
 use journal_record::bounds::EMPTY_RECORD;
 use journal_record::bounds::is_full;
-use journal_record::bounds::refusal;
-use journal_record::parts::put_regs;
+use journal_record::record::put_tail;
 use rules::Answer;
 use rules::Core;
 use rules::Machine;
@@ -13,18 +12,22 @@ use rules::Reply;
 use rules::names::*;
 use step_fast::FastStep;
 ghost use mathlib.Core.Path.{_≡_};
-ghost use mathlib.Core.Bool.{false};
-ghost use mathlib.Core.List.{[], _∷_, _++_};
+ghost use mathlib.Core.Bool.{false, not};
+ghost use mathlib.Core.List.{[], _∷_};
 ghost use Prim.Native.Nat.{_+_, _-_, _*_, _^_, _<_, _≤_};
+ghost use lib.Dec.{ltb};
 ghost use lib.ListN.{length, getD};
 ghost use lib.Seq.{sets};
 ghost use Rattle.rules.specs.Registers.{registers, withCore};
 ghost use Rattle.rules.specs.Work.{begin};
-ghost use Rattle.rules.specs.Journal.{olds, boundsBad};
+ghost use Rattle.rules.specs.Journal.{recordLength, olds, boundsBad};
 ghost use Rattle.rules.specs.Calls.{outcomeOf, commitOrRefuse};
 ghost use Rattle.step_fast.specs.Fast.{fastWork};
 ghost use Rattle.journal_record.specs.Indices.{range};
 ghost use Rattle.journal_small.specs.Count.{Counted, made};
+
+// The most pairs that the record of a common step has: the frame of a call.
+const MOST_PAIRS: usize = 4;
 
 // The first index from which a frame would have an index that is no word.
 const FRAME_LIMIT: u32 = 0xFFFF_FFFD;
@@ -42,16 +45,6 @@ fn with_core(regs: [u32; REGISTERS], s: Core) -> [u32; REGISTERS]
     t[OREG] = s.oreg;
     t[STATUS_REG] = s.status;
     t
-}
-
-// Writes the registers and the number of pairs.
-fn put_tail(journal: &mut [u32], regs: [u32; REGISTERS], n: u32, at: usize)
-    requires { ⌜ at + (registers + 1) ≤ length (now journal) ⌝ }
-    ensures { λ _. ⌜ now (journal .exit) ≡ sets (now (journal .entry)) at (regs ++ (n ∷ [])) ⌝ }
-{
-    let last = at + REGISTERS;
-    put_regs(journal, regs, at);
-    journal[last] = n;
 }
 
 // Writes a pair: the index and the word of memory there.
@@ -128,16 +121,29 @@ fn store_words(mem: &mut [u32], n: usize, i: u32, v: u32, a: u32, b: u32, c: u32
     }
 }
 
+// Tests for room: the record of any common step fits after used.
+pub fn has_room(size: usize, used: usize) -> bool
+    requires { ⌜ used ≤ size ⌝ }
+    ensures { λ r. ⌜ r ≡ not (ltb size (used + recordLength 4)) ⌝ }
+{
+    !is_full(size, used, MOST_PAIRS)
+}
+
+// Tests for JournalFull: a record without pairs does not fit after used.
+pub fn is_full_for_registers(size: usize, used: usize) -> bool
+    requires { ⌜ used ≤ size ⌝ }
+    ensures { λ r. ⌜ r ≡ ltb size (used + recordLength 0) ⌝ }
+{
+    is_full(size, used, 0)
+}
+
 // Commits a common step. One function and no helpers for machine and reply, since each hand-over would copy them.
 pub fn commit_common(m: Machine, t: FastStep, mem: &mut [u32], journal: &mut [u32]) -> Reply
-    requires { ⌜ (length (now journal) ≤ 65536) × (boundsBad (length (now journal)) (m .depth) (m .used) ≡ false) ⌝ }
+    requires { ⌜ (boundsBad (length (now journal)) (m .depth) (m .used) ≡ false) × (m .used + recordLength 4 ≤ length (now journal)) ⌝ }
     ensures { λ r. ⌜ outcomeOf r (now (mem .exit)) (now (journal .exit)) ≡ commitOrRefuse m (now (mem .entry)) (now (journal .entry)) 0 (fastWork (m .regs) t) ⌝ }
 {
     let used = m.used;
     let n = count(t, mem.len());
-    if is_full(journal.len(), used, n) {
-        return refusal(m, Answer::JournalFull);
-    }
     let old = m.regs;
     let at = used + 2 * n;
     put_pairs(journal, mem, n, t.index, used);
@@ -158,13 +164,10 @@ pub fn commit_common(m: Machine, t: FastStep, mem: &mut [u32], journal: &mut [u3
 
 // Commits a call that changes registers alone: they become regs.
 pub fn commit_regs(m: Machine, regs: [u32; REGISTERS], mem: &[u32], journal: &mut [u32]) -> Reply
-    requires { ⌜ (length (now journal) ≤ 65536) × (boundsBad (length (now journal)) (m .depth) (m .used) ≡ false) ⌝ }
+    requires { ⌜ (boundsBad (length (now journal)) (m .depth) (m .used) ≡ false) × (m .used + recordLength 0 ≤ length (now journal)) ⌝ }
     ensures { λ r. ⌜ outcomeOf r (now (mem .entry)) (now (journal .exit)) ≡ commitOrRefuse m (now (mem .entry)) (now (journal .entry)) 0 (begin regs) ⌝ }
 {
     let used = m.used;
-    if is_full(journal.len(), used, 0) {
-        return refusal(m, Answer::JournalFull);
-    }
     let old = m.regs;
     put_tail(journal, old, 0, used);
     let machine = Machine {

@@ -1,14 +1,14 @@
 -- What the stores into a log change of the Work that it stands for.
 use mathlib.Core.Path.{_≡_, refl}
 use mathlib.Core.List.{List, [], _∷_, _++_}
-use Prim.Native.Nat.{ℕ, zero, suc, _+_, _≤_, _<_}
+use Prim.Native.Nat.{ℕ, suc, _+_, _≤_, _<_}
 use native.Mathlib.Omega.{arith}
 use lib.ListN.{length, getD, set, take, drop, length-take, length-drop}
 use lib.Seq.{getD-take, getD-drop, take-set-le, take-set-lt, drop-set-add, drop-set-lt}
 use Rattle.rules.specs.Memory.{Store, word, bytes}
 use Rattle.rules.specs.Work.{Work, begin}
 use Rattle.plan.proofs.Logged.{logged-more, logged-move, logged-plain}
-use Rattle.plan.specs.View.{logged, storesOf, view, answerOf, kindOf, addressOf, numberOf, countOf, indicesOf, valuesOf, Room, Grown, Ended}
+use Rattle.plan.specs.View.{logged, storesOf, view, answerOf, kindOf, addressOf, countOf, indicesOf, valuesOf, Room, Grown, Ended}
 
 -- a list of 8 or more is its first 8 and a rest, so that reads and stores at these places compute
 pub eight : (P : List ℕ → Type 0) → ((a b c d e f k l : ℕ) (t : List ℕ) → P (a ∷ b ∷ c ∷ d ∷ e ∷ f ∷ k ∷ l ∷ t)) → (g : List ℕ) → 8 ≤ length g → P g

@@ -187,6 +187,8 @@ pub const SIZE: u32 = 1;
 
 pub const CODE_SIZE: u32 = 2;
 
+pub const JOURNAL_BAD: u32 = 4;
+
 pub const NOTHING_TO_UNDO: u32 = 5;
 
 pub const HALTED: u32 = 6;
@@ -200,6 +202,8 @@ pub const UNLISTED: u32 = 9;
 pub const OUTSIDE: u32 = 10;
 
 pub const STOP: u32 = 11;
+
+pub const JOURNAL_FULL: u32 = 12;
 
 pub const KIND_FETCH: u32 = 1;
 

@@ -1,19 +1,17 @@
 // One step (01, One step; rules/specs/Step.antt): planned over registers and memory, with the refusals 6, 7 and 9 to 11, then committed
 // or refused.
+use journal::commit::Committed;
 use plan::LOG;
-use rules::Machine;
 use rules::REGISTERS;
-use rules::Reply;
 use rules::names::*;
 ghost use mathlib.Core.Path.{_≡_};
-ghost use mathlib.Core.Bool.{false};
 ghost use mathlib.Core.List.{List};
 ghost use Prim.Native.Nat.{ℕ, _≤_};
 ghost use lib.ListN.{length};
 ghost use Rattle.rules.specs.Work.{begin};
 ghost use Rattle.rules.specs.Step as step;
-ghost use Rattle.rules.specs.Journal.{boundsBad};
-ghost use Rattle.rules.specs.Calls.{outcomeOf, commitOrRefuse};
+ghost use Rattle.rules.specs.Journal.{recordOf};
+ghost use Rattle.journal.specs.Effect.{effectOf, committed};
 ghost use Rattle.plan.specs.View.{view, countOf, Room, Ended};
 
 // Advances Iptr and takes the nibble into Oreg.
@@ -126,14 +124,25 @@ pub fn step(regs: &mut [u32; REGISTERS], log: &mut [u32; LOG], mem: &[u32])
     plan::refuse(log, HALTED);
 }
 
-// Makes the step of a call after its checks: plans it, then commits or refuses.
-pub fn plan_and_commit(m: Machine, mem: &mut [u32], journal: &mut [u32]) -> Reply
-    requires { ⌜ (length (now mem) ≤ 16384) × (length (now journal) ≤ 65536) × (boundsBad (length (now journal)) (m .depth) (m .used) ≡ false) ⌝ }
-    ensures { λ r. ⌜ outcomeOf r (now (mem .exit)) (now (journal .exit)) ≡ commitOrRefuse m (now (mem .entry)) (now (journal .entry)) 0 (step.step (now (mem .entry)) (begin (m .regs))) ⌝ }
+// Plans the step of a call after its checks, then commits it or refuses. regs and old are the registers before the step; regs become those after
+// it. The caller makes the reply: a reply made here would be copied.
+pub fn plan_and_commit(
+    old: [u32; REGISTERS],
+    regs: &mut [u32; REGISTERS],
+    used: usize,
+    mem: &mut [u32],
+    journal: &mut [u32],
+) -> Committed
+    requires { ⌜ (now regs ≡ old) × (length (now mem) ≤ 16384) × (length (now journal) ≤ 65536) × (used ≤ length (now journal)) ⌝ }
+    ensures { λ r. ⌜ (effectOf r (now (mem .exit)) (now (journal .exit)) ≡ committed (recordOf (now (mem .entry)) old) used (now (mem .entry)) (now (journal .entry)) (step.step (now (mem .entry)) (begin old) .answer) (step.step (now (mem .entry)) (begin old) .stored)) × (now (regs .exit) ≡ step.step (now (mem .entry)) (begin old) .regs) ⌝ }
 {
-    let mut regs = m.regs;
     let mut log = [0u32; LOG];
     plan::begin(&mut log);
-    step(&mut regs, &mut log, mem);
-    journal::outcome::commit_or_refuse(m, &regs, &log, 0, mem, journal)
+    step(regs, &mut log, mem);
+    let t = journal::commit::commit(&log, used, mem, journal);
+    let count = t.count;
+    if t.number == 0 {
+        journal_record::record::put_tail(journal, old, count as u32, used + 2 * count);
+    }
+    t
 }

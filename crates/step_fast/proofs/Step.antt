@@ -21,12 +21,11 @@ use Rattle.rules.specs.Timers.{timerDue, timerReady}
 use Rattle.rules.specs.Channels.{requestFrom, requested}
 use Rattle.rules.specs.Operations as tables
 use Rattle.rules.specs.Step as steps
-use Rattle.rules.proofs.Tests.{yes-lt, no-lt, yes-le, no-le, yes-eq, no-eq, no, by-bool, cases-lt, cases-eq}
+use Rattle.rules.proofs.Tests.{yes-lt, no-lt, yes-le, no-le, yes-eq, no-eq, by-bool, cases-lt, cases-eq}
 use Rattle.rules.specs.declared.Core.{Core}
 use Rattle.step_pending.specs.NothingPending as pending
 use Rattle.step_fast.specs.declared.FastStep.{FastStep}
 use Rattle.core_table.specs.Selected.{registerOperation}
-use Rattle.core_table.specs.declared.Selected.{Selected}
 use Rattle.core_table.proofs.Tables.{either, operate-is}
 use Rattle.step_fast.specs.Fast as fast
 
@@ -83,10 +82,10 @@ abbrev All : (ℕ → (Core → FastStep) → Type 0) → List (ℕ × (Core →
 All P [] = Unit {0}
 All P (e ∷ t) = P (e .0) (e .1) × All P t
 
-looked : (P : ℕ → (Core → FastStep) → Type 0) (t : List (ℕ × (Core → FastStep))) → All P t → (k : ℕ) → P k fast.other → P k (look t k fast.other)
-looked P [] all k o = o
-looked P (e ∷ t) all k o =
-    by-bool (eqb k (e .0)) (λ h. rw (h, eqb-true k (e .0) h) (all .0)) (λ h. rw h (looked P t (all .1) k o))
+looked : (P : ℕ → (Core → FastStep) → Type 0) (t : List (ℕ × (Core → FastStep))) → All P t → (k : ℕ) (d : Core → FastStep) → P k d → P k (look t k d)
+looked P [] all k d o = o
+looked P (e ∷ t) all k d o =
+    by-bool (eqb k (e .0)) (λ h. rw (h, eqb-true k (e .0) h) (all .0)) (λ h. rw h (looked P t (all .1) k d o))
 
 module _ (m rest : List ℕ) where
   -- an executed function, to its end
@@ -214,14 +213,6 @@ module _ (m rest : List ℕ) where
 
   -- ---- operations
 
-  -- an operation on registers alone
-  selected-left : (t : Selected) (v : Work) (u : FastStep) (s : Core) → fast.ofTable (s .status) t u .done ≡ true → bitAnd (s .status) gotoSNPBit ≡ 0
-      → (u .done ≡ true → steps.haltOnError (s .status) (scheduling.actOnSNP m (put oreg 0 v)) ≡ left rest s u)
-      → steps.haltOnError (s .status) (scheduling.actOnSNP m (put oreg 0 (either t (begin (listed s rest)) v))) ≡ left rest s (fast.ofTable (s .status) t u)
-  unfolding either
-  selected-left t v u s d clear e =
-      by-bool (t .found) (λ h. rw h (registers-left (λ _. t .core) s (rw h at d) clear)) (λ h. rw h (e (rw h at d)))
-
   -- an operation that accesses memory
   abbrev Accessed : ℕ → (Core → FastStep) → Type 0
   Accessed k f = (s : Core) → f s .done ≡ true → bitAnd (s .status) gotoSNPBit ≡ 0
@@ -248,15 +239,32 @@ module _ (m rest : List ℕ) where
       (λ h. rw (yes-lt h, yes-lt h) (finish m (s .status) _ refl clear))
       (λ h. never (rw (no-lt h) at d))
 
-  memory-good : (k : ℕ) → Accessed k (fast.memoryOperation m k)
-  unfolding fast.memoryOperation fast.memoryOperations
-  memory-good k = looked Accessed (fast.memoryOperations m) (lb-good, (ret-good, (sb-good, tt))) k (λ s d clear. never d)
+  -- any operation
+  abbrev Operated : ℕ → (Core → FastStep) → Type 0
+  Operated k f = (s : Core) → f s .done ≡ true → bitAnd (s .status) gotoSNPBit ≡ 0
+      → steps.haltOnError (s .status) (scheduling.actOnSNP m (put oreg 0 (either (registerOperation k s) (begin (listed s rest)) (look tables.otherOperations k tables.unlistedAction m (begin (listed s rest)))))) ≡ left rest s (f s)
+
+  accessed-good : (k : ℕ) (f : Core → FastStep) → ((s : Core) → registerOperation k s .found ≡ false) → Accessed k f → Operated k f
+  unfolding either
+  accessed-good k f none e s d clear = rw (none s) (e s d clear)
+
+  table-good : (k : ℕ) → Operated k (fast.tableOperation k)
+  unfolding fast.tableOperation either
+  table-good k s d clear =
+      by-bool (registerOperation k s .found)
+      (λ h. rw h (registers-left (λ _. registerOperation k s .core) s (rw h at d) clear))
+      (λ h. never (rw h at d))
+
+  operate-good : (k : ℕ) → Operated k (fast.operate m k)
+  unfolding fast.operate fast.memoryOperations registerOperation tables.registerOperations
+  operate-good k =
+      looked Operated (fast.memoryOperations m)
+      (accessed-good 0x01 (fast.lb m) (λ s. refl) lb-good, (accessed-good 0x20 (fast.ret m) (λ s. refl) ret-good, (accessed-good 0x3B (fast.sb m) (λ s. refl) sb-good, tt)))
+      k (fast.tableOperation k) (table-good k)
 
   opr-good : (s : Core) → Good 0xF s (fast.opr m s)
-  unfolding fast.operate steps.execute tables.function tables.functions coreOf
-  opr-good s d clear =
-      rw (operate-is (s .oreg) m (begin (listed s rest)))
-      (selected-left (registerOperation (s .oreg) s) _ (fast.memoryOperation m (s .oreg) s) s d clear (λ e. memory-good (s .oreg) s e clear))
+  unfolding steps.execute tables.function tables.functions coreOf
+  opr-good s d clear = rw (operate-is (s .oreg) m (begin (listed s rest))) (operate-good (s .oreg) s d clear)
 
   -- ---- decoding
 
@@ -275,7 +283,7 @@ module _ (m rest : List ℕ) where
 
   decode-good : (s₀ : Core) (k : ℕ) → Decoded k (fast.decode m (listed s₀ rest) k)
   unfolding fast.decode
-  decode-good s₀ k = looked Decoded (fast.functions m (listed s₀ rest)) (decode-rows s₀) k (λ s d clear. never d)
+  decode-good s₀ k = looked Decoded (fast.functions m (listed s₀ rest)) (decode-rows s₀) k fast.other (λ s d clear. never d)
 
   -- ---- the fetch
 

@@ -14,7 +14,6 @@ use Rattle.rules.specs.Work.{Work}
 use Rattle.rules.specs.declared.Core.{Core}
 use Rattle.step_pending.specs.NothingPending.{sliceEnds, nothingPending}
 use Rattle.core_table.specs.Selected.{registerOperation}
-use Rattle.core_table.specs.declared.Selected.{Selected}
 use Rattle.step_fast.specs.declared.FastStep.{FastStep}
 
 -- declined: step_engine makes the step (DECISIONS 54)
@@ -125,17 +124,14 @@ other s = decline
 unfoldable pub memoryOperations : List ℕ → List (ℕ × (Core → FastStep))
 memoryOperations m = (0x01, lb m) ∷ (0x20, ret m) ∷ (0x3B, sb m) ∷ []
 
--- the operation of a code that accesses memory, or declined (DECISIONS 54)
-unfoldable pub memoryOperation : List ℕ → ℕ → Core → FastStep
-memoryOperation m code s = look (memoryOperations m) code other s
-
--- what the table of operations on registers alone gave, done where it leaves Status as it was; where it has nothing, `next` (DECISIONS 54)
-abbrev pub ofTable : ℕ → Selected → FastStep → FastStep
-ofTable status t next = pick (t .found) (ifSameStatus status (finish (t .core))) next
+-- the operation of a code on registers alone, done where it leaves Status as it was; where the table has none, declined (DECISIONS 54)
+unfoldable pub tableOperation : ℕ → Core → FastStep
+tableOperation code s =
+    pick (registerOperation code s .found) (ifSameStatus (s .status) (finish (registerOperation code s .core))) decline
 
 -- the operation of a code, the whole operand register (000 1.8, Secondary; DECISIONS 1)
 unfoldable pub operate : List ℕ → ℕ → Core → FastStep
-operate m code s = ofTable (s .status) (registerOperation code s) (memoryOperation m code s)
+operate m code s = look (memoryOperations m) code (tableOperation code) s
 
 -- ---- decoding: the memory, all registers, the function's number, and the seven registers after the fetch
 

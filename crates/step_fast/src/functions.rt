@@ -1,8 +1,6 @@
 // The functions of common steps, on the seven registers after the fetch (000 1.11).
 use crate::FastStep;
 use core_arith::word;
-use core_ops::errors;
-use core_ops::logic;
 use core_ops::stack;
 use rules::Core;
 use rules::REGISTERS;
@@ -10,7 +8,6 @@ use rules::names::*;
 use step_pending::pending;
 ghost use mathlib.Core.Path.{_≡_};
 ghost use Rattle.step_fast.specs.Fast as fast;
-ghost use Rattle.rules.specs.Core as core;
 
 // The length of a call frame in words, and its negative.
 const FRAME: u32 = 4;
@@ -212,28 +209,28 @@ fn sb(mem: &[u32], s: Core) -> FastStep
     decline()
 }
 
-// Does lb, ret or sb; declines every other operation.
-fn memory_operation(mem: &[u32], code: u32, s: Core) -> FastStep
-    ensures { λ r. ⌜ r ≡ fast.memoryOperation (now (mem .entry)) code s ⌝ }
-{
-    match code {
-        0x01 => lb(mem, s),
-        0x20 => ret(mem, s),
-        0x3B => sb(mem, s),
-        _ => decline(),
-    }
-}
-
-// Does an operation on registers alone, or one of the few that access memory, which are asked for last; declines every other.
-fn operate(mem: &[u32], code: u32, s: Core) -> FastStep
-    ensures { λ r. ⌜ r ≡ fast.operate (now (mem .entry)) code s ⌝ }
+// Does an operation on registers alone; declines every other.
+fn table_operation(code: u32, s: Core) -> FastStep
+    ensures { λ r. ⌜ r ≡ fast.tableOperation code s ⌝ }
 {
     let t = core_table::register_operation(code, s.iptr, s.wdesc, s.a, s.b, s.c, s.oreg, s.status);
     let found = t.found;
     if found {
         return finish_if_same_status(s.status, t.core);
     }
-    memory_operation(mem, code, s)
+    decline()
+}
+
+// Does lb, ret or sb, or an operation of the table. The table comes last, so that nothing has to be kept over its call.
+fn operate(mem: &[u32], code: u32, s: Core) -> FastStep
+    ensures { λ r. ⌜ r ≡ fast.operate (now (mem .entry)) code s ⌝ }
+{
+    match code {
+        0x01 => lb(mem, s),
+        0x20 => ret(mem, s),
+        0x3B => sb(mem, s),
+        _ => table_operation(code, s),
+    }
 }
 
 // Does the function of a code; regs are all registers before the step.

@@ -1,6 +1,7 @@
 // The eight public calls of the T414 stepper (01, The part of the T414 that we build; rules/specs/Calls.antt): from any machine,
 // memory, journal and arguments to a reply. Each call makes its checks (sizes, channel, bounds of the journal), then works, then
 // commits. A refused call changes nothing. The contracts are in history/specs/Contracts.antt.
+use journal_record::bounds::EMPTY_RECORD;
 use rules::Answer;
 use rules::Machine;
 use rules::Reply;
@@ -26,8 +27,8 @@ pub fn fresh(mem: &mut [u32], journal: &mut [u32], code: &[u8]) -> Reply
     }
 }
 
-// Makes one step. Nearly every step is a common one, which needs no plan (step_fast); step_engine makes the others. It is called
-// from two places, so that the compiler does not inline it into the common steps.
+// Makes one step. Nearly every step is a common one, which needs no plan (step_fast); step_engine makes the others, and those for whose record
+// the journal may have no room. It is lent a copy of the registers and answers two numbers: a machine or a reply that is handed on is copied.
 pub fn step(m: Machine, mem: &mut [u32], journal: &mut [u32]) -> Reply
     ensures { λ r. ⌜ StepContract m (now (mem .entry)) (now (journal .entry)) r (now (mem .exit)) (now (journal .exit)) ⌝ }
 {
@@ -36,15 +37,33 @@ pub fn step(m: Machine, mem: &mut [u32], journal: &mut [u32]) -> Reply
         return journal::checks::refuse(m, number);
     }
     let regs = m.regs;
-    if step_pending::pending::nothing_pending(regs) {
-        let t = step_fast::common_step(mem, regs);
-        let common = t.done;
-        if common {
-            return journal_small::commit_common(m, t, mem, journal);
+    if journal_small::has_room(journal.len(), m.used) {
+        if step_pending::pending::nothing_pending(regs) {
+            let t = step_fast::common_step(mem, regs);
+            let common = t.done;
+            if common {
+                return journal_small::commit_common(m, t, mem, journal);
+            }
         }
-        return step_engine::plan_and_commit(m, mem, journal);
     }
-    step_engine::plan_and_commit(m, mem, journal)
+    let mut next = m.regs;
+    let used = m.used;
+    let t = step_engine::plan_and_commit(regs, &mut next, used, mem, journal);
+    let refused = t.number;
+    if refused != 0 {
+        return journal::checks::refuse(m, refused);
+    }
+    let count = t.count;
+    let machine = Machine {
+        regs: next,
+        depth: m.depth + 1,
+        used: used + (EMPTY_RECORD + 2 * count),
+    };
+    Reply {
+        machine,
+        answer: Answer::Done,
+        byte: 0,
+    }
 }
 
 // Advances the clocks by one tick.
@@ -56,6 +75,9 @@ pub fn tick(m: Machine, mem: &mut [u32], journal: &mut [u32]) -> Reply
         return journal::checks::refuse(m, number);
     }
     let regs = m.regs;
+    if journal_small::is_full_for_registers(journal.len(), m.used) {
+        return journal::checks::refuse(m, JOURNAL_FULL);
+    }
     let ticked = links::clock::tick(regs);
     journal_small::commit_regs(m, ticked, mem, journal)
 }
@@ -129,6 +151,9 @@ pub fn undo(m: Machine, mem: &mut [u32], journal: &mut [u32]) -> Reply
     }
     if m.depth == 0 {
         return journal::checks::refuse(m, NOTHING_TO_UNDO);
+    }
+    if journal::undo::record_bad(journal, m.used, mem.len()) {
+        return journal::checks::refuse(m, JOURNAL_BAD);
     }
     journal::undo::undo_last(m, mem, journal)
 }

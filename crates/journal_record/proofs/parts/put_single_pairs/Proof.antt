@@ -24,37 +24,49 @@ record Turn (j₀ mem ix : List ℕ) (f t at : ℕ) (j : List ℕ) (w k : ℕ) :
   left : sets j w (olds mem (slice k t ix)) ≡ sets j₀ at (olds mem (slice f t ix))
 
 abbrev Inv-loop : tie.InvT-loop
-Inv-loop journal₀ mem f t at ix w₀ k₀ journal w k = Turn journal₀ mem ix f t at journal w k
+Inv-loop journal₀ mem ix f t at w₀ k₀ journal w k = Turn journal₀ mem ix f t at journal w k
 
 abbrev μ-loop : tie.MeasureT-loop
-μ-loop journal₀ mem f t at ix w₀ k₀ journal w k = t - k
+μ-loop journal₀ mem ix f t at w₀ k₀ journal w k = t - k
 
 -- the words from k on are the word at k and the words after it
-cut-k : (c : tie.In-loop Inv-loop μ-loop) → slice (c .before .loop .k) (c .before .before .args .t) (c .before .before .args .t3) ≡ getD (c .before .before .args .t3) (c .before .loop .k) 0 ∷ slice (c .before .loop .k + 1) (c .before .before .args .t) (c .before .before .args .t3)
+cut-k :
+    (c : tie.In-loop Inv-loop μ-loop)
+    → let L = c .before in
+    let a = L .before .before .before .before .args in
+    slice (L .loop .k) (a .t) (a .ix .now) ≡ getD (a .ix .now) (L .loop .k) 0 ∷ slice (L .loop .k + 1) (a .t) (a .ix .now)
 cut-k c =
     let L = c .before in
-    cut (L .before .args .t3) (L .loop .k) (L .before .args .t) (c .loop-test .taken) (omega (arith, L .loop .inv .small, L .loop .inv .lx))
+    let a = L .before .before .before .before .args in
+    cut (a .ix .now) (L .loop .k) (a .t) (c .loop-test .taken) (omega (arith, L .loop .inv .small, L .loop .inv .lx))
 
-at-k : (c : tie.In-loop Inv-loop μ-loop) → getD (c .before .before .args .t3) (c .before .loop .k) 0 < length (c .before .before .args .mem .now)
+at-k :
+    (c : tie.In-loop Inv-loop μ-loop)
+    → let L = c .before in
+    let a = L .before .before .before .before .args in
+    getD (a .ix .now) (L .loop .k) 0 < length (a .mem .now)
 at-k c = (rw (cut-k c) at (c .before .loop .inv .below)) .0
 
 loop-holds : tie.Need-loop-holds Inv-loop μ-loop
-loop-holds c = record { fk = search needs; kn = search needs; small = search needs; lx = search needs; len = refl; room = search needs; here = omega arith; below = c .pre .3; left = refl }
+loop-holds c = record { fk = search needs; kn = search needs; small = search needs; lx = c .whole-indices .ensures; len = refl; room = search needs; here = omega arith; below = c .before .before .before .pre .3; left = refl }
+
+cast-a : tie.Need-cast-a Inv-loop μ-loop
+cast-a c = omega (arith, at-k (c .before))
 
 mul-journal-2 : tie.Need-mul-journal-2 Inv-loop μ-loop
-mul-journal-2 c = omega (arith, at-k c)
+mul-journal-2 c = omega (arith, at-k (c .before))
 
 shared-slice-read-journal : tie.Need-shared-slice-read-journal Inv-loop μ-loop
-shared-slice-read-journal c = omega (arith, at-k (c .before))
+shared-slice-read-journal c = omega (arith, at-k (c .before .before))
 
 slice-write-journal-2 : tie.Need-slice-write-journal-2 Inv-loop μ-loop
 slice-write-journal-2 c = simp length-set (omega arith)
 
 loop-again : tie.Need-loop-again Inv-loop μ-loop
 loop-again c =
-    let T = c .before in
+    let T = c .before .before in
     let L = T .before in
-    let a = L .before .args in
+    let a = L .before .before .before .before .args in
     let inv = L .loop .inv in
     record {
       fk = omega arith;
@@ -65,7 +77,7 @@ loop-again c =
       room = inv .room;
       here = omega arith;
       below = (rw (cut-k T) at (inv .below)) .1;
-      left = sym (olds-turn (L .loop .journal) (a .mem .now) (L .loop .w) (getD (a .t3) (L .loop .k) 0) (slice (L .loop .k + 1) (a .t) (a .t3))) ∙ (rw (cut-k T) at (inv .left));
+      left = sym (olds-turn (L .loop .journal) (a .mem .now) (L .loop .w) (getD (a .ix .now) (L .loop .k) 0) (slice (L .loop .k + 1) (a .t) (a .ix .now))) ∙ (rw (cut-k T) at (inv .left));
     }
 
 same-length : tie.Need-same-length Inv-loop μ-loop
@@ -74,17 +86,20 @@ same-length c = c .before .loop .inv .len
 returns : tie.Need-returns Inv-loop μ-loop
 returns c =
     let L = c .before in
-    let a = L .before .args in
+    let a = L .before .before .before .before .args in
     let e : L .loop .k ≡ a .t = omega arith in
-    sym (olds-done (L .loop .journal) (a .mem .now) (L .loop .w)) ∙ (rw (e, slice-empty (a .t) (a .t3)) at (L .loop .inv .left))
+    sym (olds-done (L .loop .journal) (a .mem .now) (L .loop .w)) ∙ (rw (e, slice-empty (a .t) (a .ix .now)) at (L .loop .inv .left))
 
 pub put-single-pairs-spec : {M : Type 1} → statement M
 put-single-pairs-spec =
     tie.close (tie.spec
     Inv-loop
     μ-loop
+    (λ c κs. search needs)
     loop-holds
-    (λ c. search needs) (λ c. search needs) (λ c. search needs) (λ c. search needs) (λ c. search needs) (λ c. search needs)
+    (λ c. search needs) (λ c. search needs)
+    cast-a
+    (λ c. search needs) (λ c. search needs) (λ c. search needs)
     mul-journal-2
     shared-slice-read-journal
     (λ c. search needs)

@@ -2,9 +2,9 @@ use borrow.Author.Needs.{needs}
 use mathlib.Core.Path.{_≡_}
 use lib.ListN.{length, length-set}
 use Rattle.rules.specs.Registers.{registers}
-use Rattle.journal_small.proofs.CommonStep.{tail-written}
-use Rattle.journal_small.proofs.put_tail.Statement.{statement}
-use Rattle.journal_small.proofs.put_tail.Tie as tie
+use Rattle.journal_record.proofs.Written.{tail-written}
+use Rattle.journal_record.proofs.record.put_tail.Statement.{statement}
+use Rattle.journal_record.proofs.record.put_tail.Tie as tie
 
 long : (c : tie.Start) → length (c .args .regs) ≡ registers
 long c = search needs

@@ -1,0 +1,38 @@
+-- What a commit answers and leaves, without the machine: the reply of a call is made of it and of the registers of the plan.
+use mathlib.Core.List.{List}
+use Prim.Native.Nat.{ℕ, _+_}
+use lib.ListN.{length}
+use lib.Seq.{sets}
+use Rattle.rules.specs.Tests.{ifEq, ifLt}
+use Rattle.rules.specs.Memory.{Store, stores, touched}
+use Rattle.rules.specs.Journal.{recordLength}
+use Rattle.journal.specs.declared.commit.Committed.{Committed}
+
+-- the number of the refusal or 0, the number of pairs, memory and journal (01, The journal)
+pub record Effect : Type 0 where
+  pub number : ℕ
+  pub count : ℕ
+  pub memory : List ℕ
+  pub journal : List ℕ
+
+-- the result of the code with memory and journal at its end (01, The journal)
+abbrev pub effectOf : Committed → List ℕ → List ℕ → Effect
+effectOf t mem j = record { number = t .number; count = t .count; memory = mem; journal = j }
+
+-- a refusal changes nothing (01, Answers by number)
+abbrev pub without : ℕ → List ℕ → List ℕ → Effect
+without number mem j = record { number = number; count = 0; memory = mem; journal = j }
+
+-- a plan with a refusal or 0 and its stores: refused with that number, or with 12 where the record does not fit; else its stores are made and
+-- `words` of the words stored to are written at used (01, The journal; DECISIONS 25, 44)
+unfoldable pub committed : (List ℕ → List ℕ) → ℕ → List ℕ → List ℕ → ℕ → List Store → Effect
+committed words used mem j number ss =
+    ifEq number 0
+    (ifLt (length j) (used + recordLength (length (touched (length mem) ss))) (without 12 mem j)
+    (record {
+      number = 0;
+      count = length (touched (length mem) ss);
+      memory = stores mem ss;
+      journal = sets j used (words (touched (length mem) ss));
+    }))
+    (without number mem j)
