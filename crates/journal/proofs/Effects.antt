@@ -12,7 +12,7 @@ use Rattle.rules.specs.Calls.{Outcome, refused, machineOf, recorded, commitOrRe
 use Rattle.rules.specs.declared.Machine.{Machine}
 use Rattle.rules.proofs.Tests.{yes-eq, no-eq, yes-lt, no-lt, cases-eq, cases-lt}
 use Rattle.journal_record.proofs.Written.{record-written}
-use Rattle.journal.specs.Effect.{Effect, without, committed}
+use Rattle.journal.specs.Effect.{Effect, refusedWith, committed}
 
 module _ (words : List ℕ → List ℕ) (used : ℕ) (mem j : List ℕ) (number : ℕ) (ss : List Store) where
   abbrev ks : List ℕ
@@ -22,11 +22,11 @@ module _ (words : List ℕ → List ℕ) (used : ℕ) (mem j : List ℕ) (number
   done = record { number = 0; count = length ks; memory = stores mem ss; journal = sets j used (words ks) }
 
   -- ---- by the tests of the code
-  pub committed-refused : (number ≡ 0 → ⊥) → without number mem j ≡ committed words used mem j number ss
+  pub committed-refused : (number ≡ 0 → ⊥) → refusedWith number mem j ≡ committed words used mem j number ss
   unfolding committed
   committed-refused h = rw (no-eq h)
 
-  pub committed-full : number ≡ 0 → length j < used + recordLength (length ks) → without 12 mem j ≡ committed words used mem j number ss
+  pub committed-full : number ≡ 0 → length j < used + recordLength (length ks) → refusedWith 12 mem j ≡ committed words used mem j number ss
   unfolding committed
   committed-full h l = rw (yes-eq h, yes-lt l)
 
@@ -38,8 +38,8 @@ module _ (words : List ℕ → List ℕ) (used : ℕ) (mem j : List ℕ) (number
   module _ (x : Effect) (e : x ≡ committed words used mem j number ss) where
     pub by-number :
         {P : Type 0}
-        → ((number ≡ 0 → ⊥) → x ≡ without number mem j → P)
-        → (number ≡ 0 → length j < used + recordLength (length ks) → x ≡ without 12 mem j → P)
+        → ((number ≡ 0 → ⊥) → x ≡ refusedWith number mem j → P)
+        → (number ≡ 0 → length j < used + recordLength (length ks) → x ≡ refusedWith 12 mem j → P)
         → (number ≡ 0 → used + recordLength (length ks) ≤ length j → x ≡ done → P)
         → P
     by-number f g h =

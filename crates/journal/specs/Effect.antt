@@ -1,4 +1,4 @@
--- What a commit answers and leaves, without the machine: the reply of a call is made of it and of the registers of the plan.
+-- What a commit answers and leaves, refusedWith the machine: the reply of a call is made of it and of the registers of the plan.
 use mathlib.Core.List.{List}
 use Prim.Native.Nat.{ℕ, _+_}
 use lib.ListN.{length}
@@ -20,19 +20,20 @@ abbrev pub effectOf : Committed → List ℕ → List ℕ → Effect
 effectOf t mem j = record { number = t .number; count = t .count; memory = mem; journal = j }
 
 -- a refusal changes nothing (01, Answers by number)
-abbrev pub without : ℕ → List ℕ → List ℕ → Effect
-without number mem j = record { number = number; count = 0; memory = mem; journal = j }
+abbrev pub refusedWith : ℕ → List ℕ → List ℕ → Effect
+refusedWith number mem j = record { number = number; count = 0; memory = mem; journal = j }
 
--- a plan with a refusal or 0 and its stores: refused with that number, or with 12 where the record does not fit; else its stores are made and
--- `words` of the words stored to are written at used (01, The journal; DECISIONS 25, 44)
+-- the commit of a plan by its number (a refusal, or 0) and its stores: refused with that number, or with 12 where the record does not fit; else
+-- the stores are made, and what `words` gives of the words stored to is written at used: their pairs (olds), or the whole record (recordOf)
+-- (01, The journal; DECISIONS 25, 44)
 unfoldable pub committed : (List ℕ → List ℕ) → ℕ → List ℕ → List ℕ → ℕ → List Store → Effect
 committed words used mem j number ss =
     ifEq number 0
-    (ifLt (length j) (used + recordLength (length (touched (length mem) ss))) (without 12 mem j)
+    (ifLt (length j) (used + recordLength (length (touched (length mem) ss))) (refusedWith 12 mem j)
     (record {
       number = 0;
       count = length (touched (length mem) ss);
       memory = stores mem ss;
       journal = sets j used (words (touched (length mem) ss));
     }))
-    (without number mem j)
+    (refusedWith number mem j)

@@ -29,12 +29,12 @@ pub fn commit_or_refuse(
     ensures { λ r. ⌜ outcomeOf r (now (mem .exit)) (now (journal .exit)) ≡ commitOrRefuse m (now (mem .entry)) (now (journal .entry)) byte (view (now (regs .entry)) (now (log .entry))) ⌝ }
 {
     let used = m.used;
-    let t = commit::commit(log, used, mem, journal);
-    let number = t.number;
+    let committed = commit::commit(log, used, mem, journal);
+    let number = committed.number;
     if number != 0 {
         return refuse(m, number);
     }
-    let count = t.count;
+    let count = committed.count;
     let old = m.regs;
     put_tail(journal, old, count as u32, used + 2 * count);
     let machine = Machine {

@@ -5,8 +5,8 @@ use Prim.Native.Nat.{ℕ, zero, suc, _+_, _-_, _*_, _<_}
 use native.Mathlib.Nat.{add-suc, suc-add, add-zero}
 use native.Mathlib.Omega.{arith}
 use native.Mathlib.Numerals.{add-one}
-use lib.ListN.{length, getD, set, take, length-append}
-use lib.Seq.{slice, sets, length-take-le, length-slice}
+use lib.ListN.{length, getD, set, take}
+use lib.Seq.{slice, sets, length-take-le}
 use Rattle.rules.specs.Registers.{registers}
 use Rattle.rules.specs.Journal.{olds, recordOf}
 use Rattle.laws.proofs.Touched.{length-olds}
@@ -41,9 +41,6 @@ three-parts j m a b c at x y e f =
 module _ (l : ℕ) (ix : List ℕ) (o : Outline) (h : Outlined l ix o) (lx : length ix ≡ 16) where
   low-length : length (take (o .low) ix) ≡ o .low
   low-length = length-take-le (o .low) ix (omega (arith, h .low))
-
-  end-length : length (slice (o .mid) (o .end) ix) ≡ o .end - o .mid
-  end-length = length-slice (o .mid) (o .end) ix (omega (arith, h .end))
 
   -- the pairs of an outline, in three parts
   pub pairs-written :

@@ -3,4 +3,4 @@
 pub mod bounds; // bounds of used and depth, room for a record
 pub mod touched; // the words that a plan stores to, rising
 pub mod parts; // writes the pairs and the registers
-pub mod record; // writes a record
+pub mod record; // writes the end of a record

@@ -7,7 +7,7 @@ use native.Mathlib.Nat.{add-zero}
 use native.Mathlib.Numerals.{add-one}
 use lib.ListN.{length, getD, set}
 use lib.Seq.{sets}
-use Rattle.rules.specs.Registers.{registers, withCore}
+use Rattle.rules.specs.Registers.{withCore}
 use Rattle.rules.specs.Memory.{touched, stores}
 use Rattle.rules.specs.Journal.{recordLength, olds, recordOf}
 use Rattle.rules.specs.Work.{Work, begin}
@@ -146,16 +146,6 @@ module _ (m : List ℕ) (i v a b c n : ℕ) where
       let e₂ : i + 2 ≡ suc (suc i) = omega arith in
       let e₃ : i + 3 ≡ suc (suc (suc i)) = omega arith in
       rw (e, add-one i, e₂, e₃)
-
--- pairs, registers and the number of pairs are the record
-pub record-written :
-    (j mem regs ks : List ℕ) (at n : ℕ)
-    → length ks ≡ n
-    → sets (sets j at (olds mem ks)) (at + 2 * n) (regs ++ (n ∷ [])) ≡ sets j at (recordOf mem regs ks)
-unfolding recordOf
-record-written j mem regs ks at n e =
-    let a : at + length (olds mem ks) ≡ at + 2 * n = omega (arith, length-olds mem ks) in
-    sym (rw (sets-append j at (olds mem ks) (regs ++ (length ks ∷ [])), a, e))
 
 -- ---- the outcome of a common step
 

@@ -18,7 +18,7 @@ ghost use Prim.Native.Nat.{_+_, _-_, _*_, _^_, _<_, _≤_};
 ghost use lib.Dec.{ltb};
 ghost use lib.ListN.{length, getD};
 ghost use lib.Seq.{sets};
-ghost use Rattle.rules.specs.Registers.{registers, withCore};
+ghost use Rattle.rules.specs.Registers.{withCore};
 ghost use Rattle.rules.specs.Work.{begin};
 ghost use Rattle.rules.specs.Journal.{recordLength, olds, boundsBad};
 ghost use Rattle.rules.specs.Calls.{outcomeOf, commitOrRefuse};
@@ -58,7 +58,7 @@ fn put_pair(journal: &mut [u32], mem: &[u32], i: u32, at: usize)
     journal[next] = mem[k];
 }
 
-// Counts the words that the step stores to: 0, 1 or 4. Words past the end of memory do not count.
+// Counts the words inside memory that the step stores to.
 fn count(t: FastStep, size: usize) -> usize
     ensures { λ r. ⌜ Counted size t r ⌝ }
 {

@@ -1,5 +1,5 @@
--- What a plan stands for: the registers, and a log of 40 words with the stores and the refusal. view is its Work; Room, Grown and Ended say how
--- many stores a log can take or has taken.
+-- A plan is the registers and a log of 40 words, with the stores and the refusal. view is the Work that it stands for; Room, Grown and Ended
+-- say how many stores a log can take or has taken.
 use Prim.Native.Nat.{ℕ, zero, suc, _+_, _≤_}
 use mathlib.Core.Path.{_≡_}
 use mathlib.Core.List.{List, [], _∷_, _++_}

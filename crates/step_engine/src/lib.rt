@@ -139,10 +139,10 @@ pub fn plan_and_commit(
     let mut log = [0u32; LOG];
     plan::begin(&mut log);
     step(regs, &mut log, mem);
-    let t = journal::commit::commit(&log, used, mem, journal);
-    let count = t.count;
-    if t.number == 0 {
+    let committed = journal::commit::commit(&log, used, mem, journal);
+    let count = committed.count;
+    if committed.number == 0 {
         journal_record::record::put_tail(journal, old, count as u32, used + 2 * count);
     }
-    t
+    committed
 }

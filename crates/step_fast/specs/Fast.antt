@@ -193,8 +193,8 @@ fast m r = pick (nothingPending r) (fetch m r (coreOf r)) decline
 abbrev pub frame : ℕ → ℕ → ℕ → ℕ → ℕ → List Store
 frame i v a b c = word (i + 3) c ∷ word (i + 2) b ∷ word (i + 1) a ∷ word i v ∷ []
 
--- the stores by their number: none; one, of v in word i; else the frame from word i on. The four indices of a frame are words, else there is
--- no frame (DECISIONS 54)
+-- the stores by their number: none; one, of v in word i; else the frame from word i on. A FastStep may have any index: where the four of a frame
+-- are not all words there is no frame; a step of `fast` never has such an index (DECISIONS 54)
 abbrev pub stored : ℕ → ℕ → ℕ → ℕ → ℕ → ℕ → List Store
 stored zero i v a b c = []
 stored (suc zero) i v a b c = word i v ∷ []

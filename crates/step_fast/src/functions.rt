@@ -10,7 +10,7 @@ ghost use mathlib.Core.Path.{_≡_};
 ghost use Rattle.step_fast.specs.Fast as fast;
 
 // The length of a call frame in words, and its negative.
-const FRAME: u32 = 4;
+const FRAME_WORDS: u32 = 4;
 
 const MINUS_FRAME: u32 = 0xFFFF_FFFC;
 
@@ -58,6 +58,7 @@ fn finish(s: Core) -> FastStep
     prefix(t)
 }
 
+// Finishes a step that stores v in word i: Oreg becomes 0.
 fn finish_storing(i: u32, v: u32, s: Core) -> FastStep
     ensures { λ r. ⌜ r ≡ fast.finishStoring i v s ⌝ }
 {
@@ -160,7 +161,8 @@ fn entered(s: Core) -> Core
     t
 }
 
-// Call: top is the word below Wptr, the highest of the frame. Declines where the four words are not in memory, one after the other.
+// Calls: stores the frame, whose highest word, top, is the one below Wptr, and enters the procedure. Declines where the four words are not in
+// memory, one after the other.
 fn call(mem: &[u32], s: Core) -> FastStep
     ensures { λ r. ⌜ r ≡ fast.call (now (mem .entry)) s ⌝ }
 {
@@ -180,7 +182,7 @@ fn ret(mem: &[u32], s: Core) -> FastStep
     let wptr = words::wptr_of(s.wdesc);
     let at = words::index_of(words::at_word(wptr, 0)) as usize;
     if at < mem.len() {
-        let mut t = stack::move_workspace(words::at_word(wptr, FRAME), s);
+        let mut t = stack::move_workspace(words::at_word(wptr, FRAME_WORDS), s);
         t.iptr = mem[at];
         return finish(t);
     }

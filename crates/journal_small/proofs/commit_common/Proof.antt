@@ -14,7 +14,8 @@ use Rattle.journal_small.specs.Count.{Counted}
 use Rattle.journal_record.proofs.Sorting.{range-length}
 use Rattle.journal_record.proofs.JournalBounds.{bounds-good}
 use Rattle.journal_record.proofs.Outcomes.{commit-done}
-use Rattle.journal_small.proofs.CommonStep.{common-outcome, record-written}
+use Rattle.journal_record.proofs.Written.{record-written}
+use Rattle.journal_small.proofs.CommonStep.{common-outcome}
 use Rattle.journal_small.proofs.commit_common.Statement.{statement}
 use Rattle.journal_small.proofs.commit_common.Tie as tie
 
@@ -46,21 +47,8 @@ pub commit-common-spec : {M : Type 1} → statement M
 commit-common-spec =
     tie.close
     (tie.spec
-    (λ c κs. search needs)
-    (λ c. search needs)
-    (λ c. search needs)
-    (λ c κs. search needs)
-    (λ c. search needs)
-    (λ c. search needs)
-    (λ c. search needs)
-    (λ c κs. search needs)
-    (λ c. search needs)
-    (λ c κs. search needs)
-    (λ c κs. search needs)
+    (λ c κs. search needs) (λ c. search needs) (λ c. search needs) (λ c κs. search needs) (λ c. search needs) (λ c. search needs)
+    (λ c. search needs) (λ c κs. search needs) (λ c. search needs) (λ c κs. search needs) (λ c κs. search needs)
     (λ c. omega (arith, bounds-good _ _ _ (c .before .before .before .before .before .before .before .before .before .before .before .before .before .before .before .before .before .before .before .pre .0)))
-    (λ c. search needs)
-    (λ c. search needs)
-    (λ c. search needs)
-    (λ c. search needs)
-    (λ c. search needs)
+    (λ c. search needs) (λ c. search needs) (λ c. search needs) (λ c. search needs) (λ c. search needs)
     returns)

@@ -14,13 +14,9 @@ returns c =
 
 pub append-move-spec : {M : Type 1} → statement M
 unfolding append
-append-move-spec = tie.close (tie.spec
-    (λ c. search needs)
-    (λ c κs. search needs)
-    (λ c. search needs)
-    (λ c. search needs)
-    (λ c. search needs)
-    (λ c. search needs)
+append-move-spec =
+    tie.close (tie.spec
+    (λ c. search needs) (λ c κs. search needs) (λ c. search needs) (λ c. search needs) (λ c. search needs) (λ c. search needs)
     (λ c. search needs)
     returns
     (λ c. (λ regs. rw (no-eq (c .if1 .left)), search needs)))

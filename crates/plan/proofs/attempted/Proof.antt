@@ -6,7 +6,8 @@ use Rattle.plan.proofs.attempted.Tie as tie
 
 pub attempted-spec : {M : Type 1} → statement M
 unfolding attempted
-attempted-spec = tie.close (tie.spec
+attempted-spec =
+    tie.close (tie.spec
     (λ c κs. search needs)
     (λ c. (rw (yes (c .before .before .if1 .taken)) (c .refuse .ensures .0 _), search needs))
     (λ c κs. search needs)

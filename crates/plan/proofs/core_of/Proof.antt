@@ -6,12 +6,8 @@ use Rattle.plan.proofs.core_of.Tie as tie
 
 pub core-of-spec : {M : Type 1} → statement M
 unfolding coreOf
-core-of-spec = tie.close (tie.spec
-    (λ c. search needs)
-    (λ c. search needs)
-    (λ c. search needs)
-    (λ c. search needs)
-    (λ c. search needs)
-    (λ c. search needs)
+core-of-spec =
+    tie.close (tie.spec
+    (λ c. search needs) (λ c. search needs) (λ c. search needs) (λ c. search needs) (λ c. search needs) (λ c. search needs)
     (λ c. search needs)
     (λ c. refl))

@@ -6,9 +6,7 @@ use Rattle.plan.proofs.lower.Tie as tie
 
 pub lower-spec : {M : Type 1} → statement M
 unfolding lower put
-lower-spec = tie.close (tie.spec
-    (λ c. search needs)
-    (λ c. search needs)
-    (λ c. search needs)
-    (λ c. search needs)
+lower-spec =
+    tie.close (tie.spec
+    (λ c. search needs) (λ c. search needs) (λ c. search needs) (λ c. search needs)
     (λ c. λ log. refl))

@@ -7,12 +7,8 @@ use Rattle.plan.proofs.put_core.Tie as tie
 
 pub put-core-spec : {M : Type 1} → statement M
 unfolding putCore withCore
-put-core-spec = tie.close (tie.spec
-    (λ c. search needs)
-    (λ c. search needs)
-    (λ c. search needs)
-    (λ c. search needs)
-    (λ c. search needs)
-    (λ c. search needs)
+put-core-spec =
+    tie.close (tie.spec
+    (λ c. search needs) (λ c. search needs) (λ c. search needs) (λ c. search needs) (λ c. search needs) (λ c. search needs)
     (λ c. search needs)
     (λ c. λ log. refl))

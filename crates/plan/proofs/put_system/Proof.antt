@@ -7,13 +7,8 @@ use Rattle.plan.proofs.put_system.Tie as tie
 
 pub put-system-spec : {M : Type 1} → statement M
 unfolding putSystem withSystem
-put-system-spec = tie.close (tie.spec
-    (λ c. search needs)
-    (λ c. search needs)
-    (λ c. search needs)
-    (λ c. search needs)
-    (λ c. search needs)
-    (λ c. search needs)
-    (λ c. search needs)
-    (λ c. search needs)
+put-system-spec =
+    tie.close (tie.spec
+    (λ c. search needs) (λ c. search needs) (λ c. search needs) (λ c. search needs) (λ c. search needs) (λ c. search needs)
+    (λ c. search needs) (λ c. search needs)
     (λ c. λ log. refl))

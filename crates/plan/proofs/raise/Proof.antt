@@ -6,9 +6,7 @@ use Rattle.plan.proofs.raise.Tie as tie
 
 pub raise-spec : {M : Type 1} → statement M
 unfolding raise put
-raise-spec = tie.close (tie.spec
-    (λ c. search needs)
-    (λ c. search needs)
-    (λ c. search needs)
-    (λ c. search needs)
+raise-spec =
+    tie.close (tie.spec
+    (λ c. search needs) (λ c. search needs) (λ c. search needs) (λ c. search needs)
     (λ c. λ log. refl))

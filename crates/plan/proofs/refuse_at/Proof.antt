@@ -14,11 +14,8 @@ returns c =
 
 pub refuse-at-spec : {M : Type 1} → statement M
 unfolding refuseAt
-refuse-at-spec = tie.close (tie.spec
-    (λ c. search needs)
-    (λ c κs. search needs)
-    (λ c. search needs)
-    (λ c. search needs)
-    (λ c. search needs)
+refuse-at-spec =
+    tie.close (tie.spec
+    (λ c. search needs) (λ c κs. search needs) (λ c. search needs) (λ c. search needs) (λ c. search needs)
     returns
     (λ c. (λ regs. rw (no-eq (c .if1 .left)), search needs)))

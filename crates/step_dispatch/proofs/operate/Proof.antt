@@ -13,10 +13,9 @@ unfolding either otherOperation
 returns-2 c = (rw (operate-is, ← c .before .before .before .before .before .core-of .ensures, ← c .before .before .before .before .register-operation .ensures, c .before .before .before .if1 .left) (c .other-operation .ensures .0), search needs)
 
 pub operate-spec : {M : Type 1} → statement M
-operate-spec = tie.close (tie.spec
-    (λ c κs. search needs)
-    (λ c κs. search needs)
-    (λ c κs. search needs)
+operate-spec =
+    tie.close (tie.spec
+    (λ c κs. search needs) (λ c κs. search needs) (λ c κs. search needs)
     returns
     (λ c κs. search needs)
     returns-2)

@@ -6,10 +6,9 @@ use Rattle.step_engine.proofs.channels_first.Tie as tie
 
 pub channels-first-spec : {M : Type 1} → statement M
 unfolding steps.channelsFirst
-channels-first-spec = tie.close (tie.spec
-    (λ c κs. search needs)
-    (λ c κs. search needs)
-    (λ c κs. search needs)
+channels-first-spec =
+    tie.close (tie.spec
+    (λ c κs. search needs) (λ c κs. search needs) (λ c κs. search needs)
     (λ c. (
       rw (
         ← c .before .before .before .before .before .before .before .requested .ensures,

@@ -6,9 +6,9 @@ use Rattle.step_engine.proofs.choose.Tie as tie
 
 pub choose-spec : {M : Type 1} → statement M
 unfolding steps.choose ifEq
-choose-spec = tie.close (tie.spec
-    (λ c κs. search needs)
-    (λ c κs. search needs)
+choose-spec =
+    tie.close (tie.spec
+    (λ c κs. search needs) (λ c κs. search needs)
     (λ c. (rw (← c .before .before .before .before .between-instructions .ensures, c .before .before .before .if1 .taken) (c .channels-first .ensures .0), search needs))
     (λ c κs. search needs)
     (λ c. (rw (← c .before .before .before .before .between-instructions .ensures, c .before .before .before .if1 .left) (c .instruction-unless-idle .ensures .0), search needs)))

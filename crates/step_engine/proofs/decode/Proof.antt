@@ -6,10 +6,9 @@ use Rattle.step_engine.proofs.decode.Tie as tie
 
 pub decode-spec : {M : Type 1} → statement M
 unfolding steps.decode
-decode-spec = tie.close (tie.spec
-    (λ c κs. search needs)
-    (λ c κs. search needs)
-    (λ c κs. search needs)
+decode-spec =
+    tie.close (tie.spec
+    (λ c κs. search needs) (λ c κs. search needs) (λ c κs. search needs)
     (λ c. (
       rw (yes-eq (c .before .before .before .before .before .if1 .taken)) (rw (
         c .put-core .ensures,
@@ -18,9 +17,7 @@ decode-spec = tie.close (tie.spec
       )),
       search needs,
     ))
-    (λ c κs. search needs)
-    (λ c κs. search needs)
-    (λ c κs. search needs)
+    (λ c κs. search needs) (λ c κs. search needs) (λ c κs. search needs)
     (λ c. (
       rw (no-eq (c .before .before .before .before .before .before .if1 .left), yes-eq (c .before .before .before .before .before .if2 .taken))
           (rw (c .put-core2 .ensures, c .before .before .nfix .ensures, c .before .before .before .core-of2 .ensures)),

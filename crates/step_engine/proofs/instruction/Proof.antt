@@ -5,11 +5,9 @@ use Rattle.step_engine.proofs.instruction.Tie as tie
 
 pub instruction-spec : {M : Type 1} → statement M
 unfolding steps.instruction
-instruction-spec = tie.close (tie.spec
-    (λ c. search needs)
-    (λ c κs. search needs)
-    (λ c κs. search needs)
-    (λ c κs. search needs)
+instruction-spec =
+    tie.close (tie.spec
+    (λ c. search needs) (λ c κs. search needs) (λ c κs. search needs) (λ c κs. search needs)
     (λ c. (
       rw (
         ← c .before .before .before .before .before .fetch-byte .ensures .0,

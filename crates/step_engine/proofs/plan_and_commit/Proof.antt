@@ -56,17 +56,15 @@ returns-2 c =
     (ended-refused (a .old) (a .used) (a .mem .now) (a .journal .now) _ _ _ (c .before .before .before .before .before .before .commit .ensures) (c .if1 .left) ∙ ap (λ (v : Work). committed (recordOf (a .mem .now) (a .old)) (a .used) (a .mem .now) (a .journal .now) (v .answer) (v .stored)) e, ap (λ (v : Work). v .regs) e)
 
 pub plan-and-commit-spec : {M : Type 1} → statement M
-plan-and-commit-spec = tie.close (tie.spec
-    (λ c κs. search needs)
-    (λ c κs. search needs)
+plan-and-commit-spec =
+    tie.close (tie.spec
+    (λ c κs. search needs) (λ c κs. search needs)
     commit-requires
     cast-put-tail
     mul-put-tail
     add-put-tail
     put-tail-requires
-    (λ c. search needs)
-    (λ c. search needs)
+    (λ c. search needs) (λ c. search needs)
     returns
-    (λ c. search needs)
-    (λ c. search needs)
+    (λ c. search needs) (λ c. search needs)
     returns-2)

@@ -27,10 +27,9 @@ module _ (m : List ℕ) (w : Work) where
   by-first = by-number (timerReady 0 w) (timerReady 1 w) (λ k. actOnSNP m (handleTimerRequest m k w)) (steps.instructionUnlessIdle m w)
 
 pub timers-first-spec : {M : Type 1} → statement M
-timers-first-spec = tie.close (tie.spec
-    (λ c κs. search needs)
-    (λ c κs. search needs)
-    (λ c κs. search needs)
+timers-first-spec =
+    tie.close (tie.spec
+    (λ c κs. search needs) (λ c κs. search needs) (λ c κs. search needs)
     (λ c. (
       rw (
         by-first _ _,

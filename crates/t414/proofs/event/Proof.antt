@@ -41,13 +41,12 @@ returns-2 c =
     (rw (c .before .before .before .before .before .before .before .before .before .event .ensures .0, c .before .before .before .before .before .before .before .before .before .before .before .before .begin .ensures .0 (a .m .regs)) at (c .before .before .before .before .commit-or-refuse .ensures)) ∙ passed false (a .m) (a .mem .now) (a .journal .now) (sym (c .before .before .before .before .before .before .before .before .before .before .before .before .before .before .before .before .first-bad .ensures) ∙ c .before .before .before .before .before .before .before .before .before .before .before .before .before .before .before .if1 .left) _
 
 pub event-spec : {M : Type 1} → statement M
-event-spec = tie.close (tie.spec
+event-spec =
+    tie.close (tie.spec
     (λ c κs. search needs)
     refuse-requires
     returns
-    (λ c κs. search needs)
-    (λ c κs. search needs)
+    (λ c κs. search needs) (λ c κs. search needs)
     commit-or-refuse-requires
-    (λ c. search needs)
-    (λ c. search needs)
+    (λ c. search needs) (λ c. search needs)
     returns-2)

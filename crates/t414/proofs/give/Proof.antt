@@ -47,14 +47,13 @@ returns-2 c =
     rw (← c .before .before .before .before .before .before .before .before .before .before .before .before .before .before .before .before .before .before .not-input .ensures) ((rw (c .before .before .before .before .before .before .before .before .before .give .ensures .0, c .before .before .before .before .before .before .before .before .before .before .before .before .before .begin .ensures .0 (a .m .regs)) at (c .before .before .before .before .commit-or-refuse .ensures)) ∙ passed (c .before .before .before .before .before .before .before .before .before .before .before .before .before .before .before .before .before .before .not-input .result) (a .m) (a .mem .now) (a .journal .now) (sym (c .before .before .before .before .before .before .before .before .before .before .before .before .before .before .before .before .before .first-bad .ensures) ∙ c .before .before .before .before .before .before .before .before .before .before .before .before .before .before .before .before .if1 .left) _)
 
 pub give-spec : {M : Type 1} → statement M
-give-spec = tie.close (tie.spec
-    (λ c κs. search needs)
-    (λ c κs. search needs)
+give-spec =
+    tie.close (tie.spec
+    (λ c κs. search needs) (λ c κs. search needs)
     refuse-requires
     returns
     (λ c κs. search needs)
     give-requires
     commit-or-refuse-requires
-    (λ c. search needs)
-    (λ c. search needs)
+    (λ c. search needs) (λ c. search needs)
     returns-2)

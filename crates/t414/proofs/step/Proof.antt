@@ -107,26 +107,23 @@ returns-4 c =
     (rw (c .before .before .before .before .before .before .plan-and-commit .ensures .1, number-done) (call-done (a .m) (a .mem .now) (a .journal .now) 0 (steps.step (a .mem .now) (begin (a .m .regs))) _ (c .before .before .before .before .before .before .plan-and-commit .ensures .0) (c .before .if5 .left))) ∙ passed false (a .m) (a .mem .now) (a .journal .now) (sym (c .before .before .before .before .before .before .before .before .before .before .before .before .before .before .before .first-bad .ensures) ∙ c .before .before .before .before .before .before .before .before .before .before .before .before .before .before .if1 .left) _
 
 pub step-spec : {M : Type 1} → statement M
-step-spec = tie.close (tie.spec
+step-spec =
+    tie.close (tie.spec
     (λ c κs. search needs)
     refuse-requires
     returns
     has-room-requires
-    (λ c κs. search needs)
-    (λ c κs. search needs)
+    (λ c κs. search needs) (λ c κs. search needs)
     commit-common-requires
-    (λ c. search needs)
-    (λ c. search needs)
+    (λ c. search needs) (λ c. search needs)
     returns-2
     plan-and-commit-requires
     refuse-requires-2
-    (λ c. search needs)
-    (λ c. search needs)
+    (λ c. search needs) (λ c. search needs)
     returns-3
     add-t15
     mul-t14
     add-t32
     add-t33
-    (λ c. search needs)
-    (λ c. search needs)
+    (λ c. search needs) (λ c. search needs)
     returns-4)

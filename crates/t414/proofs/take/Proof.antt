@@ -54,9 +54,9 @@ returns-2 c =
     rw (← c .before .before .before .before .before .before .before .before .before .before .before .before .before .before .before .before .before .before .before .before .before .before .not-output .ensures) ((rw (c .before .before .before .before .before .before .before .before .before .take .ensures .0, c .before .before .before .before .before .before .before .before .before .before .before .before .before .taken .ensures .0, c .before .before .before .before .before .before .before .before .before .before .before .before .before .before .before .before .before .begin .ensures .0 (a .m .regs)) at (c .before .before .before .before .commit-or-refuse .ensures)) ∙ passed (c .before .before .before .before .before .before .before .before .before .before .before .before .before .before .before .before .before .before .before .before .before .before .not-output .result) (a .m) (a .mem .now) (a .journal .now) (sym (c .before .before .before .before .before .before .before .before .before .before .before .before .before .before .before .before .before .before .before .before .before .first-bad .ensures) ∙ c .before .before .before .before .before .before .before .before .before .before .before .before .before .before .before .before .before .before .before .before .if1 .left) _)
 
 pub take-spec : {M : Type 1} → statement M
-take-spec = tie.close (tie.spec
-    (λ c κs. search needs)
-    (λ c κs. search needs)
+take-spec =
+    tie.close (tie.spec
+    (λ c κs. search needs) (λ c κs. search needs)
     refuse-requires
     returns
     (λ c κs. search needs)
@@ -64,6 +64,5 @@ take-spec = tie.close (tie.spec
     take-requires
     (λ c. search needs)
     commit-or-refuse-requires
-    (λ c. search needs)
-    (λ c. search needs)
+    (λ c. search needs) (λ c. search needs)
     returns-2)

@@ -74,6 +74,5 @@ tick-spec =
     returns-2
     (λ c κs. search needs)
     commit-regs-requires
-    (λ c. search needs)
-    (λ c. search needs)
+    (λ c. search needs) (λ c. search needs)
     returns-3)

@@ -83,10 +83,8 @@ undo-spec =
     (λ c κs. search needs)
     returns-2
     record-bad-requires
-    (λ c κs. search needs)
-    (λ c. search needs)
+    (λ c κs. search needs) (λ c. search needs)
     returns-3
     undo-last-requires
-    (λ c. search needs)
-    (λ c. search needs)
+    (λ c. search needs) (λ c. search needs)
     returns-4)

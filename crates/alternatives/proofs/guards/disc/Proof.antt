@@ -7,9 +7,9 @@ use Rattle.alternatives.proofs.guards.disc.Tie as tie
 
 pub disc-spec : {M : Type 1} → statement M
 unfolding disc put
-disc-spec = tie.close (tie.spec
-    (λ c. search needs)
-    (λ c. search needs)
+disc-spec =
+    tie.close (tie.spec
+    (λ c. search needs) (λ c. search needs)
     (λ c. (rw (yes-eq (c .if1 .taken)), search needs))
     (λ c κs. search needs)
     (λ c. (rw (no-eq (c .before .before .before .if1 .left)) (c .disc-channel .ensures .0), search needs)))

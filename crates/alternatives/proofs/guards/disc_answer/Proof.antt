@@ -7,12 +7,9 @@ use Rattle.alternatives.proofs.guards.disc_answer.Tie as tie
 
 pub disc-answer-spec : {M : Type 1} → statement M
 unfolding discAnswer put
-disc-answer-spec = tie.close (tie.spec
-    (λ c. search needs)
-    (λ c. search needs)
-    (λ c. search needs)
-    (λ c. search needs)
-    (λ c. search needs)
+disc-answer-spec =
+    tie.close (tie.spec
+    (λ c. search needs) (λ c. search needs) (λ c. search needs) (λ c. search needs) (λ c. search needs)
     (λ c. (rw (yes-eq (c .if1 .taken)), search needs))
     (λ c κs. search needs)
     (λ c. (rw (no-eq (c .before .before .before .if1 .left)) (c .is-this-selected-process .ensures .0), search needs)))

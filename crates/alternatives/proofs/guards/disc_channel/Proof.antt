@@ -6,15 +6,11 @@ use Rattle.alternatives.proofs.guards.disc_channel.Tie as tie
 
 pub disc-channel-spec : {M : Type 1} → statement M
 unfolding discChannel
-disc-channel-spec = tie.close (tie.spec
-    (λ c. search needs)
-    (λ c κs. search needs)
-    (λ c. search needs)
-    (λ c κs. search needs)
+disc-channel-spec =
+    tie.close (tie.spec
+    (λ c. search needs) (λ c κs. search needs) (λ c. search needs) (λ c κs. search needs)
     (λ c. (rw (← c .before .before .before .before .index-of .ensures, yes-lt (c .before .before .before .if1 .taken)) (c .disc-hard .ensures .0), search needs))
-    (λ c. search needs)
-    (λ c κs. search needs)
-    (λ c κs. search needs)
+    (λ c. search needs) (λ c κs. search needs) (λ c κs. search needs)
     (λ c. (
       rw (
         ← c .before .before .before .before .before .before .before .before .index-of .ensures,

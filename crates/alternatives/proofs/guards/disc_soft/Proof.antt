@@ -7,13 +7,11 @@ use Rattle.alternatives.proofs.guards.disc_soft.Tie as tie
 
 pub disc-soft-spec : {M : Type 1} → statement M
 unfolding discSoft put
-disc-soft-spec = tie.close (tie.spec
-    (λ c. search needs)
-    (λ c. search needs)
+disc-soft-spec =
+    tie.close (tie.spec
+    (λ c. search needs) (λ c. search needs)
     (λ c. (rw (yes-eq (c .if1 .taken)), search needs))
-    (λ c. search needs)
-    (λ c. search needs)
-    (λ c κs. search needs)
+    (λ c. search needs) (λ c. search needs) (λ c κs. search needs)
     (λ c. (rw (no-eq (c .before .before .before .before .before .before .if1 .left), yes-eq (c .before .before .before .if2 .taken)) (c .disclaim .ensures .0), search needs))
     (λ c κs. search needs)
     (λ c. (

@@ -6,16 +6,11 @@ use Rattle.alternatives.proofs.guards.enbc_channel.Tie as tie
 
 pub enbc-channel-spec : {M : Type 1} → statement M
 unfolding enbcChannel
-enbc-channel-spec = tie.close (tie.spec
-    (λ c. search needs)
-    (λ c κs. search needs)
-    (λ c. search needs)
-    (λ c κs. search needs)
+enbc-channel-spec =
+    tie.close (tie.spec
+    (λ c. search needs) (λ c κs. search needs) (λ c. search needs) (λ c κs. search needs)
     (λ c. (rw (← c .before .before .before .before .index-of .ensures, yes-lt (c .before .before .before .if1 .taken)) (c .enbc-hard .ensures .0), search needs))
-    (λ c. search needs)
-    (λ c κs. search needs)
-    (λ c κs. search needs)
-    (λ c κs. search needs)
+    (λ c. search needs) (λ c κs. search needs) (λ c κs. search needs) (λ c κs. search needs)
     (λ c. (
       rw (
         ← c .before .before .before .before .before .before .before .before .index-of .ensures,

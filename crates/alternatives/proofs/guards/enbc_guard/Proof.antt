@@ -6,7 +6,8 @@ use Rattle.alternatives.proofs.guards.enbc_guard.Tie as tie
 
 pub enbc-guard-spec : {M : Type 1} → statement M
 unfolding enbcGuard
-enbc-guard-spec = tie.close (tie.spec
+enbc-guard-spec =
+    tie.close (tie.spec
     (λ c. search needs)
     (λ c. (rw (yes-eq (c .if1 .taken)), search needs))
     (λ c κs. search needs)

@@ -6,7 +6,8 @@ use Rattle.alternatives.proofs.guards.enbc_soft.Tie as tie
 
 pub enbc-soft-spec : {M : Type 1} → statement M
 unfolding enbcSoft
-enbc-soft-spec = tie.close (tie.spec
+enbc-soft-spec =
+    tie.close (tie.spec
     (λ c κs. search needs)
     (λ c. (rw (yes-eq (c .before .before .if1 .taken)) (c .claim-channel .ensures .0), search needs))
     (λ c. search needs)

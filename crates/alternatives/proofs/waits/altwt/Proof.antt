@@ -5,9 +5,7 @@ use Rattle.alternatives.proofs.waits.altwt.Tie as tie
 
 pub altwt-spec : {M : Type 1} → statement M
 unfolding altwt
-altwt-spec = tie.close (tie.spec
-    (λ c. search needs)
-    (λ c κs. search needs)
-    (λ c κs. search needs)
-    (λ c κs. search needs)
+altwt-spec =
+    tie.close (tie.spec
+    (λ c. search needs) (λ c κs. search needs) (λ c κs. search needs) (λ c κs. search needs)
     (λ c. (rw (← c .before .before .before .before .before .before .w-index-word .ensures .0, ← c .before .before .before .r-index-word .ensures .0) (c .altwt-state .ensures .0), search needs)))

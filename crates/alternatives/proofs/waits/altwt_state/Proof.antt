@@ -6,7 +6,8 @@ use Rattle.alternatives.proofs.waits.altwt_state.Tie as tie
 
 pub altwt-state-spec : {M : Type 1} → statement M
 unfolding altwtState
-altwt-state-spec = tie.close (tie.spec
+altwt-state-spec =
+    tie.close (tie.spec
     (λ c. search needs)
     (λ c. (rw (yes-eq (c .if1 .taken)), search needs))
     (λ c κs. search needs)

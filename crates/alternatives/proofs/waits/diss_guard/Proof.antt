@@ -7,9 +7,9 @@ use Rattle.alternatives.proofs.waits.diss_guard.Tie as tie
 
 pub diss-guard-spec : {M : Type 1} → statement M
 unfolding dissGuard put
-diss-guard-spec = tie.close (tie.spec
-    (λ c. search needs)
-    (λ c. search needs)
+diss-guard-spec =
+    tie.close (tie.spec
+    (λ c. search needs) (λ c. search needs)
     (λ c. (rw (yes-eq (c .if1 .taken)), search needs))
     (λ c κs. search needs)
     (λ c. (rw (no-eq (c .before .before .before .if1 .left)) (c .is-this-selected-process .ensures .0), search needs)))

@@ -6,7 +6,8 @@ use Rattle.alternatives.proofs.waits.enbs.Tie as tie
 
 pub enbs-spec : {M : Type 1} → statement M
 unfolding enbs
-enbs-spec = tie.close (tie.spec
+enbs-spec =
+    tie.close (tie.spec
     (λ c. search needs)
     (λ c. (rw (yes-eq (c .if1 .taken)), search needs))
     (λ c κs. search needs)

@@ -6,7 +6,8 @@ use Rattle.channels.proofs.hard.hard_input.Tie as tie
 
 pub hard-input-spec : {M : Type 1} → statement M
 unfolding hardInput
-hard-input-spec = tie.close (tie.spec
+hard-input-spec =
+    tie.close (tie.spec
     (λ c. search needs)
     (λ c. (rw (yes-eq (c .if1 .taken)), search needs))
     (λ c κs. search needs)

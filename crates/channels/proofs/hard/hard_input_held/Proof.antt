@@ -5,12 +5,9 @@ use Rattle.channels.proofs.hard.hard_input_held.Tie as tie
 
 pub hard-input-held-spec : {M : Type 1} → statement M
 unfolding hardInputHeld
-hard-input-held-spec = tie.close (tie.spec
-    (λ c. search needs)
-    (λ c. search needs)
-    (λ c κs. search needs)
-    (λ c κs. search needs)
-    (λ c κs. search needs)
+hard-input-held-spec =
+    tie.close (tie.spec
+    (λ c. search needs) (λ c. search needs) (λ c κs. search needs) (λ c κs. search needs) (λ c κs. search needs)
     (λ c κs. search needs)
     (λ c. (
       rw (

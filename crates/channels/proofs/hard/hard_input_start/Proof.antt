@@ -6,16 +6,11 @@ use Rattle.channels.proofs.hard.hard_input_start.Tie as tie
 
 pub hard-input-start-spec : {M : Type 1} → statement M
 unfolding hardInputStart
-hard-input-start-spec = tie.close (tie.spec
-    (λ c κs. search needs)
-    (λ c κs. search needs)
+hard-input-start-spec =
+    tie.close (tie.spec
+    (λ c κs. search needs) (λ c κs. search needs)
     (λ c. (rw (yes-lt (c .before .before .before .before .before .if1 .taken), ← c .before .before .hard-start .ensures .0) (c .goto-snp .ensures _), search needs))
-    (λ c. search needs)
-    (λ c. search needs)
-    (λ c. search needs)
-    (λ c. search needs)
-    (λ c κs. search needs)
-    (λ c κs. search needs)
+    (λ c. search needs) (λ c. search needs) (λ c. search needs) (λ c. search needs) (λ c κs. search needs) (λ c κs. search needs)
     (λ c. (
       rw (
         no-lt (c .before .before .before .before .before .before .before .if1 .left),

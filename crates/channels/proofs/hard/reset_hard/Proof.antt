@@ -6,9 +6,8 @@ use Rattle.channels.proofs.hard.reset_hard.Tie as tie
 
 pub reset-hard-spec : {M : Type 1} → statement M
 unfolding resetHard
-reset-hard-spec = tie.close (tie.spec
-    (λ c. search needs)
-    (λ c. search needs)
-    (λ c κs. search needs)
+reset-hard-spec =
+    tie.close (tie.spec
+    (λ c. search needs) (λ c. search needs) (λ c κs. search needs)
     (λ c. λ log. rw (yes-lt (c .before .before .if1 .taken)) (c .lower .ensures _))
     (λ c. λ log. rw (no-lt (c .if1 .left))))

@@ -6,14 +6,10 @@ use Rattle.channels.proofs.hard.resetch.Tie as tie
 
 pub resetch-spec : {M : Type 1} → statement M
 unfolding resetch put
-resetch-spec = tie.close (tie.spec
-    (λ c. search needs)
-    (λ c κs. search needs)
-    (λ c κs. search needs)
-    (λ c κs. search needs)
-    (λ c κs. search needs)
-    (λ c κs. search needs)
-    (λ c. search needs)
+resetch-spec =
+    tie.close (tie.spec
+    (λ c. search needs) (λ c κs. search needs) (λ c κs. search needs) (λ c κs. search needs) (λ c κs. search needs)
+    (λ c κs. search needs) (λ c. search needs)
     (λ c. (
       rw (
         ← c .before .before .before .before .before .before .before .at-word .ensures,

@@ -5,11 +5,9 @@ use Rattle.channels.proofs.inputs.input_ready.Tie as tie
 
 pub input-ready-spec : {M : Type 1} → statement M
 unfolding inputReady
-input-ready-spec = tie.close (tie.spec
-    (λ c κs. search needs)
-    (λ c κs. search needs)
-    (λ c κs. search needs)
-    (λ c κs. search needs)
+input-ready-spec =
+    tie.close (tie.spec
+    (λ c κs. search needs) (λ c κs. search needs) (λ c κs. search needs) (λ c κs. search needs)
     (λ c. (
       rw (
         ← c .before .before .before .before .before .before .before .at-word .ensures,

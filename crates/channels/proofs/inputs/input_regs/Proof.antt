@@ -7,8 +7,7 @@ use Rattle.channels.proofs.inputs.input_regs.Tie as tie
 
 pub input-regs-spec : {M : Type 1} → statement M
 unfolding inputRegs put
-input-regs-spec = tie.close (tie.spec
-    (λ c. search needs)
-    (λ c. search needs)
-    (λ c. search needs)
+input-regs-spec =
+    tie.close (tie.spec
+    (λ c. search needs) (λ c. search needs) (λ c. search needs)
     (λ c. λ log. refl))

@@ -6,13 +6,9 @@ use Rattle.channels.proofs.outputs.output_local.Tie as tie
 
 pub output-local-spec : {M : Type 1} → statement M
 unfolding outputLocal put
-output-local-spec = tie.close (tie.spec
-    (λ c. search needs)
-    (λ c. search needs)
-    (λ c κs. search needs)
-    (λ c. search needs)
-    (λ c. search needs)
-    (λ c κs. search needs)
+output-local-spec =
+    tie.close (tie.spec
+    (λ c. search needs) (λ c. search needs) (λ c κs. search needs) (λ c. search needs) (λ c. search needs) (λ c κs. search needs)
     (λ c. (
       rw (← c .before .before .before .w-index-word .ensures .0)
           (c .output .ensures .0),

@@ -6,7 +6,8 @@ use Rattle.channels.proofs.outputs.output_to.Tie as tie
 
 pub output-to-spec : {M : Type 1} → statement M
 unfolding outputTo
-output-to-spec = tie.close (tie.spec
+output-to-spec =
+    tie.close (tie.spec
     (λ c κs. search needs)
     (λ c. (rw (yes-eq (c .before .before .before .if1 .taken)) (c .output-enabling .ensures .0), search needs))
     (λ c κs. search needs)

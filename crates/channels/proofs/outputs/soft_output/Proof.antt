@@ -6,7 +6,8 @@ use Rattle.channels.proofs.outputs.soft_output.Tie as tie
 
 pub soft-output-spec : {M : Type 1} → statement M
 unfolding softOutput
-soft-output-spec = tie.close (tie.spec
+soft-output-spec =
+    tie.close (tie.spec
     (λ c κs. search needs)
     (λ c. (rw (yes-eq (c .before .before .before .if1 .taken)) (c .soft-wait .ensures .0), search needs))
     (λ c κs. search needs)

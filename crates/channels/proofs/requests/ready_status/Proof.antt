@@ -6,7 +6,8 @@ use Rattle.channels.proofs.requests.ready_status.Tie as tie
 
 pub ready-status-spec : {M : Type 1} → statement M
 unfolding readyStatus
-ready-status-spec = tie.close (tie.spec
+ready-status-spec =
+    tie.close (tie.spec
     (λ c κs. search needs)
     (λ c. (rw (yes-eq (c .before .before .if1 .taken)) (c .w-index-word .ensures .0 _), search needs))
     (λ c. (rw (no-eq (c .before .if1 .left), yes-eq (c .if2 .taken)), search needs))

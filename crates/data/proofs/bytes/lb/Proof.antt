@@ -5,7 +5,7 @@ use Rattle.data.proofs.bytes.lb.Tie as tie
 
 pub lb-spec : {M : Type 1} → statement M
 unfolding lb
-lb-spec = tie.close (tie.spec
-    (λ c. search needs)
-    (λ c κs. search needs)
+lb-spec =
+    tie.close (tie.spec
+    (λ c. search needs) (λ c κs. search needs)
     (λ c. (c .r-index-byte .ensures .0, search needs)))

@@ -6,11 +6,7 @@ use Rattle.data.proofs.locals.stnl.Tie as tie
 
 pub stnl-spec : {M : Type 1} → statement M
 unfolding stnl put
-stnl-spec = tie.close (tie.spec
-    (λ c. search needs)
-    (λ c. search needs)
-    (λ c. search needs)
-    (λ c. search needs)
-    (λ c κs. search needs)
-    (λ c. search needs)
+stnl-spec =
+    tie.close (tie.spec
+    (λ c. search needs) (λ c. search needs) (λ c. search needs) (λ c. search needs) (λ c κs. search needs) (λ c. search needs)
     (λ c. (rw (← c .w-index-word .ensures .0), search needs)))

@@ -40,14 +40,13 @@ returns-3 c =
     (committed-done (olds (a .mem .now)) (a .used) (a .mem .now) (a .journal .now) (answerOf (a .log .now)) (storesOf (a .log .now)) (c .before .before .before .before .before .before .before .before .before .before .before .before .before .before .if1 .left) (omega (arith, u, c .before .before .before .before .before .before .before .before .before .before .before .before .outline-of .ensures .counts)))
 
 pub commit-spec : {M : Type 1} → statement M
-commit-spec = tie.close (tie.spec
+commit-spec =
+    tie.close (tie.spec
     (λ c. search needs)
     returns
     (λ c κs. search needs)
     is-full-requires
     returns-2
     put-pairs-requires
-    (λ c κs. search needs)
-    (λ c. search needs)
-    (λ c. search needs)
+    (λ c κs. search needs) (λ c. search needs) (λ c. search needs)
     returns-3)

@@ -91,11 +91,11 @@ returns-2 c =
     (ended-done (a .m .regs) (a .m .used) (a .mem .now) (a .journal .now) (answerOf (a .log .now)) (storesOf (a .log .now)) _ (c .before .before .before .before .before .before .before .before .before .before .before .before .commit .ensures) n) n)
 
 pub commit-or-refuse-spec : {M : Type 1} → statement M
-commit-or-refuse-spec = tie.close (tie.spec
+commit-or-refuse-spec =
+    tie.close (tie.spec
     commit-requires
     refuse-requires
-    (λ c. search needs)
-    (λ c. search needs)
+    (λ c. search needs) (λ c. search needs)
     returns
     cast-put-tail
     mul-put-tail
@@ -105,6 +105,5 @@ commit-or-refuse-spec = tie.close (tie.spec
     mul-t23
     add-t25
     add-t26
-    (λ c. search needs)
-    (λ c. search needs)
+    (λ c. search needs) (λ c. search needs)
     returns-2)

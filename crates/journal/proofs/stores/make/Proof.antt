@@ -13,12 +13,8 @@ returns c =
     rw (c .before .before .put-singles .ensures, c .before .before .before .before .before .before .before .before .make-front .ensures) (log-made (a .mem .now) (indicesOf g) (valuesOf g) (numberOf g) (cutOf g) (sourceOf g) (targetOf g) (countOf g))
 
 pub make-spec : {M : Type 1} → statement M
-make-spec = tie.close (tie.spec
-    (λ c κs. search needs)
-    (λ c. search needs)
-    (λ c. search needs)
-    (λ c. search needs)
-    (λ c. search needs)
-    (λ c κs. search needs)
+make-spec =
+    tie.close (tie.spec
+    (λ c κs. search needs) (λ c. search needs) (λ c. search needs) (λ c. search needs) (λ c. search needs) (λ c κs. search needs)
     (λ c. search needs)
     returns)

@@ -14,13 +14,8 @@ returns c =
     rw (c .before .before .put-move .ensures, c .before .before .before .before .before .before .before .before .before .put-singles .ensures) (sym (stores-append (a .mem .now) (take (cutOf g) (singles (indicesOf g) (valuesOf g))) (moves (sourceOf g) (targetOf g) (countOf g))))
 
 pub make-front-spec : {M : Type 1} → statement M
-make-front-spec = tie.close (tie.spec
-    (λ c. search needs)
-    (λ c. search needs)
-    (λ c κs. search needs)
-    (λ c. search needs)
-    (λ c. search needs)
-    (λ c. search needs)
-    (λ c κs. search needs)
-    (λ c. search needs)
+make-front-spec =
+    tie.close (tie.spec
+    (λ c. search needs) (λ c. search needs) (λ c κs. search needs) (λ c. search needs) (λ c. search needs) (λ c. search needs)
+    (λ c κs. search needs) (λ c. search needs)
     returns)

@@ -54,20 +54,14 @@ returns c =
     sym (stores-none (l .mem)) ∙ (rw (e, slice-empty (a .t) (singles (indicesOf (a .log .now)) (valuesOf (a .log .now)))) at (l .inv .left))
 
 pub put-singles-spec : {M : Type 1} → statement M
-put-singles-spec = tie.close (tie.spec
+put-singles-spec =
+    tie.close (tie.spec
     Inv-loop
     μ-loop
     (λ c κs. search needs)
     loop-holds
-    (λ c. search needs)
-    (λ c. search needs)
-    (λ c. search needs)
-    (λ c. search needs)
-    (λ c. search needs)
-    (λ c. search needs)
-    (λ c κs. search needs)
-    (λ c. search needs)
-    (λ c. search needs)
+    (λ c. search needs) (λ c. search needs) (λ c. search needs) (λ c. search needs) (λ c. search needs) (λ c. search needs)
+    (λ c κs. search needs) (λ c. search needs) (λ c. search needs)
     loop-again
     same-length
     returns)

@@ -6,7 +6,8 @@ use Rattle.links.proofs.clock.tick.Tie as tie
 
 pub tick-spec : {M : Type 1} → statement M
 unfolding tick
-tick-spec = tie.close (tie.spec
+tick-spec =
+    tie.close (tie.spec
     (λ c. search needs)
     (λ c. rw (yes-eq (c .if1 .taken)))
     (λ c κs. search needs)

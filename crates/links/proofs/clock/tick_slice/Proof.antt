@@ -7,10 +7,8 @@ use Rattle.links.proofs.clock.tick_slice.Tie as tie
 
 pub tick-slice-spec : {M : Type 1} → statement M
 unfolding tickSlice put
-tick-slice-spec = tie.close (tie.spec
-    (λ c. search needs)
-    (λ c. search needs)
-    (λ c. search needs)
-    (λ c. search needs)
+tick-slice-spec =
+    tie.close (tie.spec
+    (λ c. search needs) (λ c. search needs) (λ c. search needs) (λ c. search needs)
     (λ c. rw (yes-lt (c .if1 .taken)))
     (λ c. rw (no-lt (c .if1 .left))))

@@ -8,12 +8,11 @@ use Rattle.links.proofs.link_calls.event.Tie as tie
 
 pub event-spec : {M : Type 1} → statement M
 unfolding event
-event-spec = tie.close (tie.spec
-    (λ c κs. search needs)
-    (λ c κs. search needs)
+event-spec =
+    tie.close (tie.spec
+    (λ c κs. search needs) (λ c κs. search needs)
     (λ c. (rw (moving-yes _ _ (sym (c .before .before .before .moving .ensures (c .before .before .before .before .before .args .log .now)) ∙ c .before .before .if1 .taken)) (c .event-meets .ensures _), search needs))
-    (λ c. search needs)
-    (λ c κs. search needs)
+    (λ c. search needs) (λ c κs. search needs)
     (λ c. (
       rw (
         moving-no _ _ (sym (c .before .before .before .before .before .moving .ensures (c .before .before .before .before .before .before .before .args .log .now)) ∙ c .before .before .before .before .if1 .left),

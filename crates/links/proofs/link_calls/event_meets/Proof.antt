@@ -6,7 +6,7 @@ use Rattle.links.proofs.link_calls.event_meets.Tie as tie
 
 pub event-meets-spec : {M : Type 1} → statement M
 unfolding eventMeets put
-event-meets-spec = tie.close (tie.spec
-    (λ c. search needs)
-    (λ c κs. search needs)
+event-meets-spec =
+    tie.close (tie.spec
+    (λ c. search needs) (λ c κs. search needs)
     (λ c. λ log. (c .transfer-ends .ensures _)))

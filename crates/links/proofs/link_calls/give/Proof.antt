@@ -8,15 +8,11 @@ use Rattle.links.proofs.link_calls.give.Tie as tie
 
 pub give-spec : {M : Type 1} → statement M
 unfolding give
-give-spec = tie.close (tie.spec
-    (λ c κs. search needs)
-    (λ c κs. search needs)
+give-spec =
+    tie.close (tie.spec
+    (λ c κs. search needs) (λ c κs. search needs)
     (λ c. (rw (moving-yes _ _ (sym (c .before .before .before .before .moving .ensures (c .before .before .before .before .before .before .before .args .log .now)) ∙ c .before .before .before .if1 .taken)) (c .receive .ensures .0), search needs))
-    (λ c. search needs)
-    (λ c. search needs)
-    (λ c. search needs)
-    (λ c. search needs)
-    (λ c κs. search needs)
+    (λ c. search needs) (λ c. search needs) (λ c. search needs) (λ c. search needs) (λ c κs. search needs)
     (λ c. (
       rw (
         moving-no _ _ (sym (c .before .before .before .before .before .moving .ensures (c .before .before .before .before .before .before .before .before .args .log .now)) ∙ c .before .before .before .before .if1 .left),

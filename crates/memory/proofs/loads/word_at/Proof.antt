@@ -29,14 +29,9 @@ returns-2 c =
     (c .latest .ensures (stores (stores m pre) mid) (omega (arith, stores-length mid (stores m pre), stores-length pre m)) (sym (c .before .word-between .ensures)))
 
 pub word-at-spec : {M : Type 1} → statement M
-word-at-spec = tie.close (tie.spec
-    (λ c κs. search needs)
-    (λ c. search needs)
+word-at-spec =
+    tie.close (tie.spec
+    (λ c κs. search needs) (λ c. search needs)
     returns
-    (λ c. search needs)
-    (λ c. search needs)
-    (λ c. search needs)
-    (λ c. search needs)
-    (λ c κs. search needs)
-    (λ c κs. search needs)
+    (λ c. search needs) (λ c. search needs) (λ c. search needs) (λ c. search needs) (λ c κs. search needs) (λ c κs. search needs)
     returns-2)

@@ -41,16 +41,11 @@ returns c =
     (e ∙ ap (byteIn m) f ∙ sym (came-byte m (sourceOf g) (targetOf g) (countOf g) (a .a) (omega (arith, S .pre .3, stores-length pre (a .mem .now)))), c .byte-of .ensures .1)
 
 pub byte-moved-spec : {M : Type 1} → statement M
-byte-moved-spec = tie.close (tie.spec
-    (λ c. search needs)
-    (λ c κs. search needs)
-    (λ c. search needs)
-    (λ c κs. search needs)
-    (λ c. search needs)
-    (λ c κs. search needs)
+byte-moved-spec =
+    tie.close (tie.spec
+    (λ c. search needs) (λ c κs. search needs) (λ c. search needs) (λ c κs. search needs) (λ c. search needs) (λ c κs. search needs)
     (λ c κs. search needs)
     cast-word-before
     word-before-requires
-    (λ c. search needs)
-    (λ c κs. search needs)
+    (λ c. search needs) (λ c κs. search needs)
     returns)

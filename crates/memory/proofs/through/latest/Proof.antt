@@ -43,17 +43,13 @@ returns-2 c =
     sym (L .inv .2 m ∙ ap (λ (s : List ℕ). getD s (a .i) 0) (held-none (a .log .now) (c .before .before .whole-log .ensures) m (a .f) (L .k) z) ∙ e)
 
 pub latest-spec : {M : Type 1} → statement M
-latest-spec = tie.close (tie.spec
+latest-spec =
+    tie.close (tie.spec
     Inv-loop
     μ-loop
     (λ c κs. search needs)
     loop-holds
-    (λ c. search needs)
-    (λ c. search needs)
-    (λ c. search needs)
-    (λ c. search needs)
-    (λ c. search needs)
-    (λ c. search needs)
+    (λ c. search needs) (λ c. search needs) (λ c. search needs) (λ c. search needs) (λ c. search needs) (λ c. search needs)
     (λ c. search needs)
     returns
     (λ c. search needs)

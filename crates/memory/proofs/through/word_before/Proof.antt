@@ -8,10 +8,7 @@ returns c =
     c .latest .ensures (c .before .before .before .before .args .mem .now) (c .before .before .before .before .pre .0) refl
 
 pub word-before-spec : {M : Type 1} → statement M
-word-before-spec = tie.close (tie.spec
-    (λ c. search needs)
-    (λ c. search needs)
-    (λ c. search needs)
-    (λ c. search needs)
-    (λ c κs. search needs)
+word-before-spec =
+    tie.close (tie.spec
+    (λ c. search needs) (λ c. search needs) (λ c. search needs) (λ c. search needs) (λ c κs. search needs)
     returns)

@@ -35,22 +35,13 @@ returns-4 c =
     rw (move-inside (stores (a .mem .now) pre) (sourceOf g) (targetOf g) (countOf g) (omega (arith, stores-length pre (a .mem .now))) (omega (arith, stores-length pre (a .mem .now)))) (c .word-moved .ensures)
 
 pub word-between-spec : {M : Type 1} → statement M
-word-between-spec = tie.close (tie.spec
-    (λ c. search needs)
-    (λ c κs. search needs)
-    (λ c κs. search needs)
+word-between-spec =
+    tie.close (tie.spec
+    (λ c. search needs) (λ c κs. search needs) (λ c κs. search needs)
     returns
-    (λ c. search needs)
-    (λ c κs. search needs)
-    (λ c. search needs)
-    (λ c. search needs)
-    (λ c κs. search needs)
+    (λ c. search needs) (λ c κs. search needs) (λ c. search needs) (λ c. search needs) (λ c κs. search needs)
     returns-2
-    (λ c. search needs)
-    (λ c κs. search needs)
-    (λ c. search needs)
-    (λ c. search needs)
-    (λ c κs. search needs)
+    (λ c. search needs) (λ c κs. search needs) (λ c. search needs) (λ c. search needs) (λ c κs. search needs)
     returns-3
     (λ c κs. search needs)
     returns-4)

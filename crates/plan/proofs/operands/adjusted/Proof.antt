@@ -6,9 +6,7 @@ use Rattle.plan.proofs.operands.adjusted.Tie as tie
 
 pub adjusted-spec : {M : Type 1} → statement M
 unfolding adjusted put
-adjusted-spec = tie.close (tie.spec
-    (λ c. search needs)
-    (λ c κs. search needs)
-    (λ c. search needs)
-    (λ c. search needs)
+adjusted-spec =
+    tie.close (tie.spec
+    (λ c. search needs) (λ c κs. search needs) (λ c. search needs) (λ c. search needs)
     (λ c. λ log. rw (← c .before .at-word .ensures)))

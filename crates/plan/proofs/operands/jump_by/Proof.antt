@@ -6,8 +6,7 @@ use Rattle.plan.proofs.operands.jump_by.Tie as tie
 
 pub jump-by-spec : {M : Type 1} → statement M
 unfolding jumpBy put
-jump-by-spec = tie.close (tie.spec
-    (λ c. search needs)
-    (λ c κs. search needs)
-    (λ c. search needs)
+jump-by-spec =
+    tie.close (tie.spec
+    (λ c. search needs) (λ c κs. search needs) (λ c. search needs)
     (λ c. λ log. rw (← c .at-byte .ensures)))

@@ -7,9 +7,7 @@ use Rattle.plan.proofs.operands.popped.Tie as tie
 
 pub popped-spec : {M : Type 1} → statement M
 unfolding popped put
-popped-spec = tie.close (tie.spec
-    (λ c. search needs)
-    (λ c. search needs)
-    (λ c. search needs)
-    (λ c. search needs)
+popped-spec =
+    tie.close (tie.spec
+    (λ c. search needs) (λ c. search needs) (λ c. search needs) (λ c. search needs)
     (λ c. λ log. refl))

@@ -7,9 +7,7 @@ use Rattle.plan.proofs.operands.pushed.Tie as tie
 
 pub pushed-spec : {M : Type 1} → statement M
 unfolding pushed put
-pushed-spec = tie.close (tie.spec
-    (λ c. search needs)
-    (λ c. search needs)
-    (λ c. search needs)
-    (λ c. search needs)
+pushed-spec =
+    tie.close (tie.spec
+    (λ c. search needs) (λ c. search needs) (λ c. search needs) (λ c. search needs)
     (λ c. λ log. refl))

@@ -6,7 +6,8 @@ use Rattle.processes.proofs.ending.end_counted.Tie as tie
 
 pub end-counted-spec : {M : Type 1} → statement M
 unfolding endCounted
-end-counted-spec = tie.close (tie.spec
+end-counted-spec =
+    tie.close (tie.spec
     (λ c κs. search needs)
     (λ c. (rw (yes-eq (c .before .before .before .if1 .taken)) (c .end-last .ensures .0), search needs))
     (λ c κs. search needs)

@@ -6,10 +6,7 @@ use Rattle.processes.proofs.ending.end_last.Tie as tie
 
 pub end-last-spec : {M : Type 1} → statement M
 unfolding endLast put
-end-last-spec = tie.close (tie.spec
-    (λ c. search needs)
-    (λ c. search needs)
-    (λ c. search needs)
-    (λ c κs. search needs)
-    (λ c. search needs)
+end-last-spec =
+    tie.close (tie.spec
+    (λ c. search needs) (λ c. search needs) (λ c. search needs) (λ c κs. search needs) (λ c. search needs)
     (λ c. (rw (← c .r-index-word .ensures .0), search needs)))

@@ -5,11 +5,9 @@ use Rattle.processes.proofs.loops.lend.Tie as tie
 
 pub lend-spec : {M : Type 1} → statement M
 unfolding lend
-lend-spec = tie.close (tie.spec
-    (λ c κs. search needs)
-    (λ c κs. search needs)
-    (λ c κs. search needs)
-    (λ c κs. search needs)
+lend-spec =
+    tie.close (tie.spec
+    (λ c κs. search needs) (λ c κs. search needs) (λ c κs. search needs) (λ c κs. search needs)
     (λ c. (
       rw (
         ← c .before .before .before .before .before .before .before .before .before .count-down .ensures .0,

@@ -6,11 +6,9 @@ use Rattle.processes.proofs.loops.loop_on.Tie as tie
 
 pub loop-on-spec : {M : Type 1} → statement M
 unfolding loopOn
-loop-on-spec = tie.close (tie.spec
-    (λ c. search needs)
-    (λ c κs. search needs)
-    (λ c κs. search needs)
-    (λ c κs. search needs)
+loop-on-spec =
+    tie.close (tie.spec
+    (λ c. search needs) (λ c κs. search needs) (λ c κs. search needs) (λ c κs. search needs)
     (λ c. (
       rw (← c .before .before .before .before .before .before .before .positive .ensures, yes (c .before .before .before .before .before .before .if1 .taken), ← c .before .before .before .count-up .ensures .0)
           (c .loop-back .ensures .0),

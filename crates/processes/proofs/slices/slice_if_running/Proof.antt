@@ -6,7 +6,8 @@ use Rattle.processes.proofs.slices.slice_if_running.Tie as tie
 
 pub slice-if-running-spec : {M : Type 1} → statement M
 unfolding sliceIfRunning
-slice-if-running-spec = tie.close (tie.spec
+slice-if-running-spec =
+    tie.close (tie.spec
     (λ c. search needs)
     (λ c. (rw (yes-eq (c .if1 .taken)), search needs))
     (λ c κs. search needs)

@@ -6,7 +6,8 @@ use Rattle.processes.proofs.slices.time_slice.Tie as tie
 
 pub time-slice-spec : {M : Type 1} → statement M
 unfolding timeSlice
-time-slice-spec = tie.close (tie.spec
+time-slice-spec =
+    tie.close (tie.spec
     (λ c. search needs)
     (λ c. (rw (yes-eq (c .if1 .taken)), search needs))
     (λ c κs. search needs)

@@ -5,13 +5,8 @@ use Rattle.processes.proofs.starting.startp.Tie as tie
 
 pub startp-spec : {M : Type 1} → statement M
 unfolding startp
-startp-spec = tie.close (tie.spec
-    (λ c. search needs)
-    (λ c. search needs)
-    (λ c κs. search needs)
-    (λ c. search needs)
-    (λ c. search needs)
-    (λ c. search needs)
-    (λ c κs. search needs)
-    (λ c κs. search needs)
+startp-spec =
+    tie.close (tie.spec
+    (λ c. search needs) (λ c. search needs) (λ c κs. search needs) (λ c. search needs) (λ c. search needs) (λ c. search needs)
+    (λ c κs. search needs) (λ c κs. search needs)
     (λ c. (rw (← c .before .before .before .before .before .before .before .before .at-byte .ensures, ← c .before .before .before .w-index-word .ensures .0) (c .run .ensures .0), search needs)))

@@ -6,7 +6,7 @@ use Rattle.scheduling.proofs.flags.mask_status.Tie as tie
 
 pub mask-status-spec : {M : Type 1} → statement M
 unfolding maskStatus put
-mask-status-spec = tie.close (tie.spec
-    (λ c. search needs)
-    (λ c. search needs)
+mask-status-spec =
+    tie.close (tie.spec
+    (λ c. search needs) (λ c. search needs)
     (λ c. (search needs)))

@@ -6,7 +6,8 @@ use Rattle.scheduling.proofs.flags.resumed.Tie as tie
 
 pub resumed-spec : {M : Type 1} → statement M
 unfolding resumed
-resumed-spec = tie.close (tie.spec
+resumed-spec =
+    tie.close (tie.spec
     (λ c. search needs)
     (λ c. λ log. rw (yes-eq (c .if1 .taken)))
     (λ c κs. search needs)

@@ -7,7 +7,8 @@ use Rattle.scheduling.proofs.flags.start_slice.Tie as tie
 
 pub start-slice-spec : {M : Type 1} → statement M
 unfolding startSlice put
-start-slice-spec = tie.close (tie.spec
+start-slice-spec =
+    tie.close (tie.spec
     (λ c. λ log. rw (yes-eq (c .if1 .taken)))
     (λ c. search needs)
     (λ c. λ log. rw (no-eq (c .if1 .left))))

@@ -6,12 +6,9 @@ use Rattle.scheduling.proofs.running.interrupt.Tie as tie
 
 pub interrupt-spec : {M : Type 1} → statement M
 unfolding interrupt put
-interrupt-spec = tie.close (tie.spec
-    (λ c. search needs)
-    (λ c κs. search needs)
-    (λ c. search needs)
-    (λ c κs. search needs)
-    (λ c κs. search needs)
+interrupt-spec =
+    tie.close (tie.spec
+    (λ c. search needs) (λ c κs. search needs) (λ c. search needs) (λ c κs. search needs) (λ c κs. search needs)
     (λ c. (
       rw (
         ← c .before .before .before .before .before .save-registers .ensures .0,

@@ -6,7 +6,8 @@ use Rattle.scheduling.proofs.running.run_over_low.Tie as tie
 
 pub run-over-low-spec : {M : Type 1} → statement M
 unfolding runOverLow
-run-over-low-spec = tie.close (tie.spec
+run-over-low-spec =
+    tie.close (tie.spec
     (λ c κs. search needs)
     (λ c. (rw (yes-eq (c .before .before .before .if1 .taken)) (c .interrupt .ensures .0), search needs))
     (λ c κs. search needs)

@@ -19,12 +19,9 @@ returns-2 c = (
 
 pub restore-rest-spec : {M : Type 1} → statement M
 unfolding restoreRest
-restore-rest-spec = tie.close (tie.spec
+restore-rest-spec =
+    tie.close (tie.spec
     (λ c. search needs)
     (λ c. (rw (yes-eq (c .if1 .taken)), search needs))
-    (λ c κs. search needs)
-    (λ c κs. search needs)
-    (λ c κs. search needs)
-    (λ c κs. search needs)
-    (λ c κs. search needs)
+    (λ c κs. search needs) (λ c κs. search needs) (λ c κs. search needs) (λ c κs. search needs) (λ c κs. search needs)
     returns-2)

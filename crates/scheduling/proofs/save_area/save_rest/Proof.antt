@@ -20,12 +20,9 @@ returns-2 c = (
 
 pub save-rest-spec : {M : Type 1} → statement M
 unfolding saveRest
-save-rest-spec = tie.close (tie.spec
+save-rest-spec =
+    tie.close (tie.spec
     (λ c. search needs)
     (λ c. (rw (yes-eq (c .if1 .taken)), search needs))
-    (λ c κs. search needs)
-    (λ c κs. search needs)
-    (λ c κs. search needs)
-    (λ c κs. search needs)
-    (λ c κs. search needs)
+    (λ c κs. search needs) (λ c κs. search needs) (λ c κs. search needs) (λ c κs. search needs) (λ c κs. search needs)
     returns-2)

@@ -6,7 +6,8 @@ use Rattle.scheduling.proofs.start_next.act_on_snp.Tie as tie
 
 pub act-on-snp-spec : {M : Type 1} → statement M
 unfolding actOnSNP
-act-on-snp-spec = tie.close (tie.spec
+act-on-snp-spec =
+    tie.close (tie.spec
     (λ c. search needs)
     (λ c. (rw (yes-eq (c .if1 .taken)), search needs))
     (λ c κs. search needs)

@@ -6,7 +6,8 @@ use Rattle.scheduling.proofs.stopping.stoperr.Tie as tie
 
 pub stoperr-spec : {M : Type 1} → statement M
 unfolding stoperr
-stoperr-spec = tie.close (tie.spec
+stoperr-spec =
+    tie.close (tie.spec
     (λ c. search needs)
     (λ c. (rw (yes-eq (c .if1 .taken)), search needs))
     (λ c κs. search needs)

@@ -6,7 +6,8 @@ use Rattle.step_pending.proofs.halting.halt_on_error.Tie as tie
 
 pub halt-on-error-spec : {M : Type 1} → statement M
 unfolding steps.haltOnError
-halt-on-error-spec = tie.close (tie.spec
+halt-on-error-spec =
+    tie.close (tie.spec
     (λ c. search needs)
     (λ c. λ log. rw (yes-eq (c .before .before .if1 .taken), yes-eq (c .if2 .taken)))
     (λ c κs. search needs)

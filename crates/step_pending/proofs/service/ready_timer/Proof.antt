@@ -6,7 +6,8 @@ use Rattle.step_pending.proofs.service.ready_timer.Tie as tie
 
 pub ready-timer-spec : {M : Type 1} → statement M
 unfolding firstReady
-ready-timer-spec = tie.close (tie.spec
+ready-timer-spec =
+    tie.close (tie.spec
     (λ c κs. search needs)
     (λ c. λ log. rw (← c .before .timer-ready .ensures, c .if1 .taken) refl)
     (λ c κs. search needs)

@@ -33,18 +33,13 @@ returns-2 : tie.Need-returns-2 Inv-loop μ-loop
 returns-2 c = λ log. sym (c .before .loop .inv .0 log ∙ search-ends _ _ _ (omega arith))
 
 pub request-from-spec : {M : Type 1} → statement M
-request-from-spec = tie.close (tie.spec
+request-from-spec =
+    tie.close (tie.spec
     Inv-loop
     μ-loop
     loop-holds
-    (λ c. search needs)
-    (λ c. search needs)
-    (λ c. search needs)
-    (λ c. search needs)
-    (λ c. search needs)
-    (λ c. search needs)
-    (λ c. search needs)
-    (λ c. search needs)
+    (λ c. search needs) (λ c. search needs) (λ c. search needs) (λ c. search needs) (λ c. search needs) (λ c. search needs)
+    (λ c. search needs) (λ c. search needs)
     loop-again
     returns
     (λ c. search needs)

@@ -5,12 +5,9 @@ use Rattle.timers.proofs.deletion.delete_final_step.Tie as tie
 
 pub delete-final-step-spec : {M : Type 1} → statement M
 unfolding deleteFinalStep
-delete-final-step-spec = tie.close (tie.spec
-    (λ c. search needs)
-    (λ c. search needs)
-    (λ c κs. search needs)
-    (λ c κs. search needs)
-    (λ c κs. search needs)
+delete-final-step-spec =
+    tie.close (tie.spec
+    (λ c. search needs) (λ c. search needs) (λ c κs. search needs) (λ c κs. search needs) (λ c κs. search needs)
     (λ c κs. search needs)
     (λ c. (
       rw (

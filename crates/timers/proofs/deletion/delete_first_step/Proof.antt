@@ -5,14 +5,10 @@ use Rattle.timers.proofs.deletion.delete_first_step.Tie as tie
 
 pub delete-first-step-spec : {M : Type 1} → statement M
 unfolding deleteFirstStep
-delete-first-step-spec = tie.close (tie.spec
-    (λ c. search needs)
-    (λ c κs. search needs)
-    (λ c κs. search needs)
-    (λ c κs. search needs)
-    (λ c. search needs)
-    (λ c κs. search needs)
-    (λ c κs. search needs)
+delete-first-step-spec =
+    tie.close (tie.spec
+    (λ c. search needs) (λ c κs. search needs) (λ c κs. search needs) (λ c κs. search needs) (λ c. search needs)
+    (λ c κs. search needs) (λ c κs. search needs)
     (λ c. (
       rw (
         ← c .before .before .before .before .before .before .before .level .ensures .0,

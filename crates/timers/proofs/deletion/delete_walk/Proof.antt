@@ -34,17 +34,14 @@ returns-2 c =
     (c .refuse .ensures .0 _ ∙ sym (l .inv .0 ∙ delete-out _ _ _ _ (omega arith)), search needs)
 
 pub delete-walk-spec : {M : Type 1} → statement M
-delete-walk-spec = tie.close (tie.spec
+delete-walk-spec =
+    tie.close (tie.spec
     Inv-loop
     μ-loop
     loop-holds
-    (λ c. search needs)
-    (λ c κs. search needs)
-    (λ c κs. search needs)
+    (λ c. search needs) (λ c κs. search needs) (λ c κs. search needs)
     returns
-    (λ c κs. search needs)
-    (λ c. search needs)
-    (λ c. search needs)
+    (λ c κs. search needs) (λ c. search needs) (λ c. search needs)
     loop-again
     (λ c κs. search needs)
     returns-2)

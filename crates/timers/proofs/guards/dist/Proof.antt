@@ -7,14 +7,11 @@ use Rattle.timers.proofs.guards.dist.Tie as tie
 
 pub dist-spec : {M : Type 1} → statement M
 unfolding dist put
-dist-spec = tie.close (tie.spec
-    (λ c. search needs)
-    (λ c. search needs)
+dist-spec =
+    tie.close (tie.spec
+    (λ c. search needs) (λ c. search needs)
     (λ c. (rw (yes-eq (c .if1 .taken)), search needs))
-    (λ c. search needs)
-    (λ c κs. search needs)
-    (λ c κs. search needs)
-    (λ c κs. search needs)
+    (λ c. search needs) (λ c κs. search needs) (λ c κs. search needs) (λ c κs. search needs)
     (λ c. (
       rw (
         no-eq (c .before .before .before .before .before .before .before .if1 .left),

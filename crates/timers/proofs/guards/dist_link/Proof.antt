@@ -7,7 +7,8 @@ use Rattle.timers.proofs.guards.dist_link.Tie as tie
 
 pub dist-link-spec : {M : Type 1} → statement M
 unfolding distLink put
-dist-link-spec = tie.close (tie.spec
+dist-link-spec =
+    tie.close (tie.spec
     (λ c. search needs)
     (λ c. (rw (yes-eq (c .if1 .taken)), search needs))
     (λ c κs. search needs)

@@ -7,11 +7,9 @@ use Rattle.timers.proofs.guards.dist_set.Tie as tie
 
 pub dist-set-spec : {M : Type 1} → statement M
 unfolding distSet put
-dist-set-spec = tie.close (tie.spec
-    (λ c. search needs)
-    (λ c κs. search needs)
-    (λ c κs. search needs)
-    (λ c κs. search needs)
+dist-set-spec =
+    tie.close (tie.spec
+    (λ c. search needs) (λ c κs. search needs) (λ c κs. search needs) (λ c κs. search needs)
     (λ c. (
       rw (
         yes-eq (c .before .before .before .before .before .before .before .if1 .taken),
@@ -21,6 +19,5 @@ dist-set-spec = tie.close (tie.spec
       ) (c .dist-ready .ensures .0),
       search needs,
     ))
-    (λ c κs. search needs)
-    (λ c. search needs)
+    (λ c κs. search needs) (λ c. search needs)
     (λ c. (rw (no-eq (c .before .before .before .if1 .left), ← c .delete-first-step .ensures .0), search needs)))

@@ -6,13 +6,11 @@ use Rattle.timers.proofs.guards.enbt_guard.Tie as tie
 
 pub enbt-guard-spec : {M : Type 1} → statement M
 unfolding enbtGuard
-enbt-guard-spec = tie.close (tie.spec
+enbt-guard-spec =
+    tie.close (tie.spec
     (λ c. search needs)
     (λ c. (rw (yes-eq (c .if1 .taken)), search needs))
-    (λ c. search needs)
-    (λ c κs. search needs)
-    (λ c κs. search needs)
-    (λ c κs. search needs)
+    (λ c. search needs) (λ c κs. search needs) (λ c κs. search needs) (λ c κs. search needs)
     (λ c. (
       rw (
         no-eq (c .before .before .before .before .before .before .if1 .left),

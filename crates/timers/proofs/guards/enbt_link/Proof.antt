@@ -6,13 +6,11 @@ use Rattle.timers.proofs.guards.enbt_link.Tie as tie
 
 pub enbt-link-spec : {M : Type 1} → statement M
 unfolding enbtLink
-enbt-link-spec = tie.close (tie.spec
+enbt-link-spec =
+    tie.close (tie.spec
     (λ c κs. search needs)
     (λ c. (rw (yes-eq (c .before .before .if1 .taken)) (c .enbt-first .ensures .0), search needs))
-    (λ c. search needs)
-    (λ c κs. search needs)
-    (λ c κs. search needs)
-    (λ c κs. search needs)
+    (λ c. search needs) (λ c κs. search needs) (λ c κs. search needs) (λ c κs. search needs)
     (λ c. (
       rw (
         no-eq (c .before .before .before .before .before .before .before .if1 .left),

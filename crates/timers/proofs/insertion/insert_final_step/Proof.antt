@@ -6,12 +6,9 @@ use Rattle.timers.proofs.insertion.insert_final_step.Tie as tie
 
 pub insert-final-step-spec : {M : Type 1} → statement M
 unfolding insertFinalStep put
-insert-final-step-spec = tie.close (tie.spec
-    (λ c. search needs)
-    (λ c κs. search needs)
-    (λ c. search needs)
-    (λ c κs. search needs)
-    (λ c κs. search needs)
+insert-final-step-spec =
+    tie.close (tie.spec
+    (λ c. search needs) (λ c κs. search needs) (λ c. search needs) (λ c κs. search needs) (λ c κs. search needs)
     (λ c. (
       rw (
         ← c .before .before .before .before .before .before .insert-link .ensures .0,

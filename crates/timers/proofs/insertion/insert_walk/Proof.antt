@@ -39,18 +39,14 @@ returns-3 c =
     (c .refuse .ensures .0 _ ∙ sym (l .inv .0 ∙ insert-out _ _ _ _ _ (omega arith)), search needs)
 
 pub insert-walk-spec : {M : Type 1} → statement M
-insert-walk-spec = tie.close (tie.spec
+insert-walk-spec =
+    tie.close (tie.spec
     Inv-loop
     μ-loop
     loop-holds
-    (λ c κs. search needs)
-    (λ c κs. search needs)
+    (λ c κs. search needs) (λ c κs. search needs)
     returns
-    (λ c κs. search needs)
-    (λ c κs. search needs)
-    (λ c κs. search needs)
-    (λ c κs. search needs)
-    (λ c. search needs)
+    (λ c κs. search needs) (λ c κs. search needs) (λ c κs. search needs) (λ c κs. search needs) (λ c. search needs)
     (λ c. search needs)
     loop-again
     (λ c κs. search needs)

@@ -5,11 +5,9 @@ use Rattle.timers.proofs.requests.timer_front.Tie as tie
 
 pub timer-front-spec : {M : Type 1} → statement M
 unfolding timerFront
-timer-front-spec = tie.close (tie.spec
-    (λ c κs. search needs)
-    (λ c κs. search needs)
-    (λ c κs. search needs)
-    (λ c κs. search needs)
+timer-front-spec =
+    tie.close (tie.spec
+    (λ c κs. search needs) (λ c κs. search needs) (λ c κs. search needs) (λ c κs. search needs)
     (λ c. (
       rw (
         ← c .before .before .before .before .before .before .before .before .at-word .ensures,

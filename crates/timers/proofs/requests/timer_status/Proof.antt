@@ -6,7 +6,8 @@ use Rattle.timers.proofs.requests.timer_status.Tie as tie
 
 pub timer-status-spec : {M : Type 1} → statement M
 unfolding timerStatus
-timer-status-spec = tie.close (tie.spec
+timer-status-spec =
+    tie.close (tie.spec
     (λ c. (rw (yes-eq (c .if1 .taken)), search needs))
     (λ c κs. search needs)
     (λ c. (rw (no-eq (c .before .before .before .before .if1 .left), yes-eq (c .before .before .before .if2 .taken)) (c .timed-out .ensures .0), search needs))

@@ -6,8 +6,7 @@ use Rattle.timers.proofs.timer_queue.next_time.Tie as tie
 
 pub next-time-spec : {M : Type 1} → statement M
 unfolding nextTime put
-next-time-spec = tie.close (tie.spec
-    (λ c. search needs)
-    (λ c κs. search needs)
-    (λ c. search needs)
+next-time-spec =
+    tie.close (tie.spec
+    (λ c. search needs) (λ c κs. search needs) (λ c. search needs)
     (λ c. λ log. rw (← c .wrap-add .ensures)))

@@ -6,7 +6,8 @@ use Rattle.timers.proofs.timer_queue.timer_ready.Tie as tie
 
 pub timer-ready-spec : {M : Type 1} → statement M
 unfolding timerReady
-timer-ready-spec = tie.close (tie.spec
+timer-ready-spec =
+    tie.close (tie.spec
     (λ c κs. search needs)
     (λ c. λ log. rw (yes-eq (c .before .if1 .taken)) (c .timer-due .ensures _))
     (λ c. search needs)

@@ -6,14 +6,11 @@ use Rattle.timers.proofs.waits.taltwt_link.Tie as tie
 
 pub taltwt-link-spec : {M : Type 1} → statement M
 unfolding taltwtLink
-taltwt-link-spec = tie.close (tie.spec
-    (λ c. search needs)
-    (λ c κs. search needs)
+taltwt-link-spec =
+    tie.close (tie.spec
+    (λ c. search needs) (λ c κs. search needs)
     (λ c. (rw (yes-eq (c .before .before .before .if1 .taken)) (c .wait .ensures .0), search needs))
-    (λ c. search needs)
-    (λ c. search needs)
-    (λ c κs. search needs)
-    (λ c κs. search needs)
+    (λ c. search needs) (λ c. search needs) (λ c κs. search needs) (λ c κs. search needs)
     (λ c. (
       rw (
         no-eq (c .before .before .before .before .before .before .before .before .before .if1 .left),

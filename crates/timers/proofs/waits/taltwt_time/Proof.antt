@@ -5,17 +5,10 @@ use Rattle.timers.proofs.waits.taltwt_time.Tie as tie
 
 pub taltwt-time-spec : {M : Type 1} → statement M
 unfolding taltwtTime
-taltwt-time-spec = tie.close (tie.spec
-    (λ c. search needs)
-    (λ c κs. search needs)
-    (λ c. search needs)
-    (λ c. search needs)
-    (λ c. search needs)
-    (λ c. search needs)
-    (λ c κs. search needs)
-    (λ c. search needs)
-    (λ c κs. search needs)
-    (λ c κs. search needs)
+taltwt-time-spec =
+    tie.close (tie.spec
+    (λ c. search needs) (λ c κs. search needs) (λ c. search needs) (λ c. search needs) (λ c. search needs) (λ c. search needs)
+    (λ c κs. search needs) (λ c. search needs) (λ c κs. search needs) (λ c κs. search needs)
     (λ c. (
       rw (
         ← c .before .before .before .before .before .before .before .before .before .before .level .ensures .0,
@@ -26,8 +19,7 @@ taltwt-time-spec = tie.close (tie.spec
           (c .time-now .ensures .0),
       search needs,
     ))
-    (λ c κs. search needs)
-    (λ c κs. search needs)
+    (λ c κs. search needs) (λ c κs. search needs)
     (λ c. (
       rw (
         ← c .before .before .before .before .before .before .before .before .before .level .ensures .0,

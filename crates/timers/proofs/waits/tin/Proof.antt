@@ -5,17 +5,12 @@ use Rattle.timers.proofs.waits.tin.Tie as tie
 
 pub tin-spec : {M : Type 1} → statement M
 unfolding tin
-tin-spec = tie.close (tie.spec
-    (λ c. search needs)
-    (λ c κs. search needs)
-    (λ c. search needs)
-    (λ c. search needs)
-    (λ c. search needs)
-    (λ c. search needs)
+tin-spec =
+    tie.close (tie.spec
+    (λ c. search needs) (λ c κs. search needs) (λ c. search needs) (λ c. search needs) (λ c. search needs) (λ c. search needs)
     (λ c κs. search needs)
     (λ c. (rw (← c .before .before .before .before .level .ensures .0, ← c .before .later .ensures, c .if1 .taken), search needs))
-    (λ c κs. search needs)
-    (λ c κs. search needs)
+    (λ c κs. search needs) (λ c κs. search needs)
     (λ c. (
       rw (
         ← c .before .before .before .before .before .before .before .before .before .level .ensures .0,
