@@ -1,4 +1,4 @@
--- What a commit answers and leaves, refusedWith the machine: the reply of a call is made of it and of the registers of the plan.
+-- What a commit answers and leaves, without the machine: the reply of a call is made of it and of the registers of the plan.
 use mathlib.Core.List.{List}
 use Prim.Native.Nat.{ℕ, _+_}
 use lib.ListN.{length}
