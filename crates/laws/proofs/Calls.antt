@@ -11,13 +11,14 @@ use lib.Seq.{length-sets, length-take-le}
 use Rattle.rules.specs.Tests.{pick, ifLt}
 use Rattle.rules.specs.Registers.{registers}
 use Rattle.rules.specs.Memory.{touched}
-use Rattle.rules.specs.Work.{Work}
+use Rattle.rules.specs.Work.{Work, outside}
 use Rattle.rules.specs.Journal.{recordLength, recordOf, boundsBad, lastPairs, lastStart, lastRegs, pairsAt, writeBack, strays}
-use Rattle.rules.specs.Calls.{Outcome, refused, machineOf, sizeBad, recorded, commitOrRefuse, checked, step, tick, take, give, event, undone, undoLast, undo, clear, freshRegs, freshMemory, codeBad, noMachine, fresh}
+use Rattle.rules.specs.Calls.{Outcome, refused, accepted, machineOf, sizeBad, recorded, commitOrRefuse, checked, step, tick, take, give, event, undone, undoLast, undo, clear, freshRegs, freshMemory, codeBad, noMachine, fresh}
 use Rattle.rules.specs.declared.Machine.{Machine}
 use Rattle.rules.proofs.Tests.{on-pick, on-lt, on-eq}
+use Rattle.laws.specs.Answers.{Known}
 use Rattle.laws.specs.Calls.{Kept, Refusing, Unwritten}
-use Rattle.laws.proofs.Fine.{Fine, Known, fine-begin}
+use Rattle.laws.proofs.Fine.{Fine, fine-begin, proper-refuse, turns-known}
 use Rattle.laws.proofs.FineLinks.{fine-tick, fine-take, fine-give, fine-event}
 use Rattle.laws.proofs.FineStep.{fine-step}
 use Rattle.laws.proofs.Stores.{length-stores}
@@ -28,7 +29,7 @@ module _ (m : Machine) (mem j : List ℕ) where
   refusing : (n : ℕ) → Refusing m mem j (refused n m mem j)
   refusing n = record { same = λ h. refl }
 
-  accepting : (b : ℕ) (after : Machine) (mem′ j′ : List ℕ) → Refusing m mem j (record { answer = 0; byte = b; machine = after; memory = mem′; journal = j′ })
+  accepting : (b : ℕ) (after : Machine) (mem′ j′ : List ℕ) → Refusing m mem j (accepted b after mem′ j′)
   accepting b after mem′ j′ = record { same = λ h. absurd (h refl) }
 
   refusing-recorded : (b : ℕ) (regs ks after : List ℕ) → Refusing m mem j (recorded m mem j b regs ks after)
@@ -37,7 +38,7 @@ module _ (m : Machine) (mem j : List ℕ) where
 
   refusing-settled : (b : ℕ) (w : Work) → Refusing m mem j (commitOrRefuse m mem j b w)
   unfolding commitOrRefuse
-  refusing-settled b w = on-eq (Refusing m mem j) _ _ (refusing-recorded b _ _ _) (refusing (w .answer))
+  refusing-settled b w = on-eq (Refusing m mem j) _ _ (refusing-recorded b _ _ _) (record { same = λ h. refl })
 
   refusing-checked : (bad : Bool) (o : Outcome) → Refusing m mem j o → Refusing m mem j (checked bad m mem j o)
   unfolding checked
@@ -92,7 +93,7 @@ refused-fresh code mem j =
 -- ---- clear, undo and fresh write no journal word
 
 module _ (m : Machine) (mem j : List ℕ) where
-  unwritten : (n b : ℕ) (after : Machine) (mem′ : List ℕ) → Unwritten j (record { answer = n; byte = b; machine = after; memory = mem′; journal = j })
+  unwritten : (n b : ℕ) (after : Machine) (mem′ : List ℕ) → Unwritten j (record { answer = n; part = 0; address = 0; byte = b; machine = after; memory = mem′; journal = j })
   unwritten n b after mem′ = record { journal = refl }
 
   pub unwritten-clear : Unwritten j (clear m mem j)
@@ -147,9 +148,13 @@ bounds-within size depth used e = go (ltb size used) refl e
     go true h q = absurd (let z : _≡_ {A = ℕ} 0 1 = cc in omega arith)
     go false h q = ltb-false size used h
 
+-- an answer without an access
+plain : (n : ℕ) → (n ≤ 12) × (n ≡ outside → ⊥) → Known n 0 0
+plain n q = record { most = q .0; proper = proper-refuse n (q .1) }
+
 module _ (m : Machine) (mem j : List ℕ) (h : length (m .regs) ≡ registers) where
-  kept-refused : (n : ℕ) → n ≤ 12 → Kept mem j (refused n m mem j)
-  kept-refused n q = record { count = h; memory = refl; journal = refl; known = q }
+  kept-refused : (n : ℕ) → (n ≤ 12) × (n ≡ outside → ⊥) → Kept mem j (refused n m mem j)
+  kept-refused n q = record { count = h; memory = refl; journal = refl; known = plain n q }
 
   kept-settled : (b : ℕ) (w : Work) → Fine Known w → Kept mem j (commitOrRefuse m mem j b w)
   unfolding commitOrRefuse recorded
@@ -157,12 +162,12 @@ module _ (m : Machine) (mem j : List ℕ) (h : length (m .regs) ≡ registers) w
       on-eq (Kept mem j) _ _
       (on-lt (Kept mem j) _ _ (kept-refused 12 (omega arith))
       (record {
-        count = f .count;
+        count = f .count .0;
         memory = length-stores mem (w .stored);
         journal = length-sets j (m .used) (recordOf mem (m .regs) (touched (length mem) (w .stored)));
-        known = omega arith;
+        known = plain 0 (omega arith);
       }))
-      (kept-refused (w .answer) (f .known))
+      (record { count = h; memory = refl; journal = refl; known = f .known })
 
   -- what stands behind the checks may use that they passed
   kept-checked : (bad : Bool) (o : Outcome) → (m .used ≤ length j → Kept mem j o) → Kept mem j (checked bad m mem j o)
@@ -177,7 +182,7 @@ module _ (m : Machine) (mem j : List ℕ) (h : length (m .regs) ≡ registers) w
 
   pub kept-step : Kept mem j (step m mem j)
   unfolding step
-  kept-step = kept-checked _ _ (λ u. kept-settled _ _ (fine-step mem (λ k a z kind address. omega arith) (λ k a z kind address. omega arith) (λ k a z kind address. omega arith) (λ k a z kind address. omega arith) (fine-begin (m .regs) h)))
+  kept-step = kept-checked _ _ (λ u. kept-settled _ _ (fine-step mem (turns-known _ (omega arith)) (turns-known _ (omega arith)) (turns-known _ (omega arith)) (turns-known _ (omega arith)) (fine-begin (m .regs) h)))
 
   pub kept-tick : Kept mem j (tick m mem j)
   unfolding tick
@@ -185,15 +190,15 @@ module _ (m : Machine) (mem j : List ℕ) (h : length (m .regs) ≡ registers) w
 
   pub kept-take : (c : ℕ) → Kept mem j (take c m mem j)
   unfolding take
-  kept-take c = kept-checked _ _ (λ u. kept-settled _ _ (fine-take mem c (λ k a z kind address. omega arith) (fine-begin (m .regs) h)))
+  kept-take c = kept-checked _ _ (λ u. kept-settled _ _ (fine-take mem c (turns-known _ (omega arith)) (fine-begin (m .regs) h)))
 
   pub kept-give : (c byte : ℕ) → Kept mem j (give c byte m mem j)
   unfolding give
-  kept-give c byte = kept-checked _ _ (λ u. kept-settled _ _ (fine-give mem c byte (λ k a z kind address. omega arith) (fine-begin (m .regs) h)))
+  kept-give c byte = kept-checked _ _ (λ u. kept-settled _ _ (fine-give mem c byte (turns-known _ (omega arith)) (fine-begin (m .regs) h)))
 
   pub kept-event : Kept mem j (event m mem j)
   unfolding event
-  kept-event = kept-checked _ _ (λ u. kept-settled _ _ (fine-event (λ k a z kind address. omega arith) (fine-begin (m .regs) h)))
+  kept-event = kept-checked _ _ (λ u. kept-settled _ _ (fine-event (turns-known _ (omega arith)) (fine-begin (m .regs) h)))
 
   kept-undoLast : m .used ≤ length j → Kept mem j (undoLast m mem j)
   unfolding undoLast undone ifLt
@@ -203,13 +208,7 @@ module _ (m : Machine) (mem j : List ℕ) (h : length (m .regs) ≡ registers) w
       ps = pairsAt j (lastStart j (m .used)) (lastPairs j (m .used))
 
       go : (t : Bool) → ltb (m .used) (recordLength (lastPairs j (m .used))) ≡ t
-          → Kept mem j (pick t (refused 4 m mem j) (pick (strays (length mem) ps) (refused 4 m mem j) (record {
-            answer = 0;
-            byte = 0;
-            machine = machineOf (lastRegs j (m .used)) (m .depth - 1) (lastStart j (m .used));
-            memory = writeBack mem ps;
-            journal = j;
-          })))
+          → Kept mem j (pick t (refused 4 m mem j) (pick (strays (length mem) ps) (refused 4 m mem j) (accepted 0 (machineOf (lastRegs j (m .used)) (m .depth - 1) (lastStart j (m .used))) (writeBack mem ps) j)))
       go true e = kept-refused 4 (omega arith)
       go false e =
           on-pick (Kept mem j) (strays (length mem) ps) (kept-refused 4 (omega arith))
@@ -217,7 +216,7 @@ module _ (m : Machine) (mem j : List ℕ) (h : length (m .regs) ≡ registers) w
             count = length-lastRegs j (m .used) u (omega (arith, ltb-false (m .used) (recordLength (lastPairs j (m .used))) e));
             memory = length-writeBack mem ps;
             journal = refl;
-            known = omega arith;
+            known = plain 0 (omega arith);
           })
 
   pub kept-undo : Kept mem j (undo m mem j)
@@ -228,7 +227,7 @@ module _ (m : Machine) (mem j : List ℕ) (h : length (m .regs) ≡ registers) w
   unfolding clear
   kept-clear =
       on-pick (Kept mem j) (sizeBad mem j) (kept-refused 1 (omega arith))
-      (record { count = h; memory = refl; journal = refl; known = omega arith })
+      (record { count = h; memory = refl; journal = refl; known = plain 0 (omega arith) })
 
 pub kept-fresh : (code mem j : List ℕ) → Kept mem j (fresh code mem j)
 unfolding fresh
@@ -239,5 +238,5 @@ kept-fresh code mem j =
       count = length-freshRegs (length code);
       memory = length-freshMemory code 0 (length mem);
       journal = refl;
-      known = omega arith;
+      known = plain 0 (omega arith);
     }))

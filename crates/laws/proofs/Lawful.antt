@@ -11,13 +11,13 @@ use Rattle.rules.specs.Tests.{pick, ifLt, ifLe, ifEq}
 use Rattle.rules.specs.Words.{index, offset, selector, atByte, atWord, byteOf, withByte}
 use Rattle.rules.specs.Registers.{registers}
 use Rattle.rules.specs.Memory.{Store, word, bytes}
-use Rattle.rules.specs.Work.{Work, put, raise, lower, gotoSNP, putCore, putSystem, putBoth, outside, stop, kindFetch, kindLoad, kindStore, refuse, append, attempted, wordAt, byteAt, access, fetchByte, readWord, storeWord, storeByte, rIndexWord, rIndexByte, wIndexWord, moveOutside, moveOrRefuse, transfer}
+use Rattle.rules.specs.Work.{Work, put, raise, lower, gotoSNP, putCore, putSystem, putBoth, outside, stop, kindFetch, kindLoad, kindStore, refuse, append, attempted, wordAt, byteAt, access, fetchByte, readWord, storeWord, storeByte, rIndexWord, rIndexByte, wIndexWord, moveOutside, moveAccesses, moveOrRefuse, transfer}
 use Rattle.rules.specs.declared.Core.{Core}
 use Rattle.rules.specs.declared.Attempt.{Attempt}
 use Rattle.rules.specs.declared.Both.{Both}
 use Rattle.rules.proofs.Tests.{yes-lt, no-lt, yes-eq, no-eq, cases-lt, cases-eq}
-use Rattle.laws.specs.Alike.{StoreInside, Unrefused, Alike, beyond, refused, same}
-use Rattle.laws.proofs.Fine.{Fine, Turns, AnswerIs, never-turns, refused-with, fine-outside, fine-put, fine-putCore, fine-putSystem, fine-refuse, fine-append, fine-access, fine-transfer}
+use Rattle.laws.specs.Alike.{Whole, StoreInside, Unrefused, Alike, beyond, refused, same}
+use Rattle.laws.proofs.Fine.{Fine, Turns, AnswerIs, never-turns, unnoted, refused-with, fine-outside, fine-put, fine-putCore, fine-putSystem, fine-refuse, fine-append, fine-access, fine-transfer}
 use Rattle.laws.proofs.Calm.{any-fine, inside-same}
 use Rattle.laws.proofs.Appended.{word-appended, inside-snoc}
 
@@ -37,7 +37,7 @@ kept {P} l m {w} f = l w .keeps P (λ n t. t) m f
 module _ {A : ℕ → Type 0} where
   -- ---- one after the other
 
-  stays : {h : List ℕ → Work → Work} → Law A h → (mem : List ℕ) (w : Work) → (w .answer ≡ 0 → ⊥) → length (w .regs) ≡ registers
+  stays : {h : List ℕ → Work → Work} → Law A h → (mem : List ℕ) (w : Work) → (w .answer ≡ 0 → ⊥) → Whole w
       → Fine (AnswerIs (w .answer) (w .kind) (w .address)) (h mem w)
   stays l mem w n c =
       let t = never-turns (w .answer) (w .kind) (w .address) n in
@@ -120,7 +120,7 @@ module _ {A : ℕ → Type 0} where
   pub lawful-refuse : (number : ℕ) → A number → (number ≡ 0 → ⊥) × (number ≡ outside → ⊥) → Law A (λ mem. refuse number)
   lawful-refuse number allowed n w =
       record {
-        keeps = λ P t mem f. fine-refuse number (t number allowed) f;
+        keeps = λ P t mem f. fine-refuse number (n .1) (t number allowed) f;
         alike = λ m x small u. rw (refused-with number 0 0 w (u .none)) (refused (n .0) (n .1) refl (u .count) (u .count));
       }
 
@@ -159,10 +159,10 @@ module _ {A : ℕ → Type 0} where
       → Lawful A w (λ mem. g mem (access mem kind a w))
   access-then kind a low high w g k one =
       record {
-        keeps = λ P t mem f. k P t mem _ (fine-access mem kind a f);
+        keeps = λ P t mem f. k P t mem _ (fine-access mem kind a low high f);
         alike = λ m x small u.
             cases-lt (index a) (length m)
-            (λ h. rw (inside-same m kind a w h, inside-same (m ++ x) kind a w (longer m x (index a) h)) (one m x small u h))
+            (λ h. rw (inside-same m kind a w (u .count .1) h, inside-same (m ++ x) kind a w (u .count .1) (longer m x (index a) h)) (one m x small u h))
             (λ h. beyond-with kind a low high h (k _ (λ n z. never-turns outside kind a (λ z. omega (arith, z)) n) m _ (fine-outside m kind a w (u .count) (u .none) h)));
       }
 
@@ -235,9 +235,10 @@ module _ (m x : List ℕ) (small : length m < 2 ^ 30) where
   alike-transfer : (s d n : ℕ) (w : Work) → Unrefused (length m) w → Alike (length m) (transfer m s d n w) (transfer (m ++ x) s d n w)
   unfolding transfer moveOrRefuse
   alike-transfer s d n w u =
-      cases-eq n 0
+      rw (unnoted (moveAccesses m s d n) w (u .count .1), unnoted (moveAccesses (m ++ x) s d n) w (u .count .1))
+      (cases-eq n 0
       (λ e. rw (yes-eq e, yes-eq e) (same refl u))
-      (λ e. rw (no-eq e, no-eq e) (go e (moves s d n)))
+      (λ e. rw (no-eq e, no-eq e) (go e (moves s d n))))
     where
       go : (n ≡ 0 → ⊥) → Moves s d n → Alike (length m) (moveOrRefuse m (moveOutside m s d n) s d n w) (moveOrRefuse (m ++ x) (moveOutside (m ++ x) s d n) s d n w)
       go e (fits h h′ p q) =

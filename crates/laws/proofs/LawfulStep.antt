@@ -65,7 +65,7 @@ module _ {A : ℕ → Type 0} where
 
 -- of a machine of 45 registers
 pub step-alike : (m x : List ℕ) → length m < 2 ^ 30 → (r : List ℕ) → length r ≡ registers → Alike (length m) (step m (begin r)) (step (m ++ x) (begin r))
-step-alike m x small r h = lawful-step {A = λ n. Unit {0}} tt tt tt tt (begin r) .alike m x small (record { none = refl; inside = tt; count = h })
+step-alike m x small r h = lawful-step {A = λ n. Unit {0}} tt tt tt tt (begin r) .alike m x small (record { none = refl; inside = tt; count = (h, refl) })
 
 -- ---- a fetch outside memory is refused with 10, of a fetch at Iptr
 
@@ -75,7 +75,7 @@ FetchRefused r w = Fine (AnswerIs outside kindFetch (getD r iptrReg 0)) w
 pub fetch-refused : (r mem : List ℕ) → length r ≡ registers → length mem ≤ index (getD r iptrReg 0) → FetchRefused r (instruction mem (begin r))
 unfolding instruction
 fetch-refused r mem h o =
-    kept (lawful-decode (turns stop) (turns unlisted) _) mem (kept (lawful-fetched _) mem (fine-outside mem kindFetch (getD r iptrReg 0) (begin r) h refl o))
+    kept (lawful-decode (turns stop) (turns unlisted) _) mem (kept (lawful-fetched _) mem (fine-outside mem kindFetch (getD r iptrReg 0) (begin r) (h, refl) refl o))
   where
     turns : (number : ℕ) → Turns (AnswerIs outside kindFetch (getD r iptrReg 0)) number
     turns = never-turns outside kindFetch (getD r iptrReg 0) (λ z. omega (arith, z))

@@ -59,15 +59,15 @@ module _ (walk : ℕ → List ℕ → Work → Work) (law : (A : ℕ → Type 0)
     where
       only : (mem : List ℕ) {size : ℕ} → Unrefused size w → Only (walk (length mem + 2) mem w .answer) 0 0
       only mem u =
-          kept {P = Only} (law _ (λ k a z kind address n o. refl) (length mem + 2)) mem
-          (record { count = u .count; known = λ n o. absurd (n (u .none)); ten = λ k a z kind address n o. absurd (o refl) }) .known
+          kept {P = Only} (law _ (λ k a z kind address p n o. refl) (length mem + 2)) mem
+          (record { count = u .count; known = λ n o. absurd (n (u .none)); ten = λ k a z kind address p n o. absurd (o refl) }) .known
 
       go : (m x : List ℕ) → Unrefused (length m) w → Alike (length m) (walk (length m + 2) m w) (walk (length m + 2) (m ++ x) w)
           → Alike (length m) (walk (length m + 2) m w) (walk (length (m ++ x) + 2) (m ++ x) w)
       go m x u (beyond e c t) = beyond e c t
       go m x u (refused n o e c c′) =
           let z = only m u n o in
-          refused n o (z ∙ sym (ring m x w u z)) c (kept (law _ (λ k a z kind address. tt) (length (m ++ x) + 2)) (m ++ x) (any-fine w (u .count)) .count)
+          refused n o (z ∙ sym (ring m x w u z)) c (kept (law _ (λ k a z kind address p. tt) (length (m ++ x) + 2)) (m ++ x) (any-fine w (u .count)) .count)
       go m x u (same e v) =
           same (e ∙ sym (more (length m + 2) (length (m ++ x) + 2) (omega (arith, length-append m x)) (m ++ x) w (ap (λ (y : Work). y .answer) (sym e) ∙ v .none))) v
 

@@ -1,7 +1,7 @@
 -- The places of an instruction read neither Iptr nor Oreg, so their tests are the same after the fetch as at the step's start.
 use mathlib.Core.Path.{_≡_, refl, sym, ap, _∙_}
 use mathlib.Core.Bool.{true}
-use mathlib.Core.List.{List, []}
+use mathlib.Core.List.{List, [], _∷_}
 use Prim.Native.Nat.{ℕ, _+_, _≤_}
 use native.Mathlib.Omega.{arith}
 use lib.Dec.{eqb}
@@ -12,7 +12,7 @@ use Rattle.rules.specs.Words.{atByte, atWord, index, clearBits}
 use Rattle.rules.specs.Core.{wptrOf}
 use Rattle.rules.specs.Registers.{iptrReg, wdescReg, areg, breg, creg, oreg, clockReg, flagsReg, tEnabled}
 use Rattle.rules.specs.Memory.{Store, word}
-use Rattle.rules.specs.Work.{Work, reg, put, lower, wptr, priority, append, access, refuseAt, outside, wordAt, kindLoad, kindStore, storeWord, rIndexWord, wIndexWord}
+use Rattle.rules.specs.Work.{Work, note, reg, put, lower, wptr, priority, append, access, refuseAt, outside, wordAt, kindLoad, kindStore, storeWord, rIndexWord, wIndexWord}
 use Rattle.rules.specs.Scheduling.{waiting, noneSelected, stateS, tlinkS, timeS}
 use Rattle.rules.specs.Timers.{tptrLoc, nextTime}
 use Rattle.rules.specs.Step.{fetched}
@@ -31,7 +31,7 @@ module _ (i x : ℕ) (apart : (k : ℕ) → 1 ≤ k → (k ≡ oreg → ⊥) →
 
   put-past : (k v : ℕ) (w : Work) → 1 ≤ k → (k ≡ oreg → ⊥) → put k v (put i x w) ≡ put i x (put k v w)
   unfolding put
-  put-past k v w h n = ap (λ (l : List ℕ). record { regs = l; stored = w .stored; answer = w .answer; kind = w .kind; address = w .address }) (set-comm (w .regs) i k x v (λ e. apart k h n (sym e)))
+  put-past k v w h n = ap (λ (l : List ℕ). record { regs = l; stored = w .stored; answer = w .answer; kind = w .kind; address = w .address; trace = w .trace }) (set-comm (w .regs) i k x v (λ e. apart k h n (sym e)))
 
   refuse-past : (number kind a : ℕ) (w : Work) → refuseAt number kind a (put i x w) ≡ put i x (refuseAt number kind a w)
   unfolding refuseAt put
@@ -41,11 +41,11 @@ module _ (i x : ℕ) (apart : (k : ℕ) → 1 ≤ k → (k ≡ oreg → ⊥) →
       (λ e. rw (no-eq e, no-eq e))
 
   access-past : (kind a : ℕ) (w : Work) → access m kind a (put i x w) ≡ put i x (access m kind a w)
-  unfolding access
+  unfolding access put
   access-past kind a w =
       cases-lt (index a) (length m)
       (λ h. rw (yes-lt h, yes-lt h))
-      (λ h. rw (no-lt h, no-lt h) (refuse-past outside kind a w))
+      (λ h. rw (no-lt h, no-lt h) (refuse-past outside kind a (note ((kind, a) ∷ []) w)))
 
   append-past : (s : Store) (w : Work) → append s (put i x w) ≡ put i x (append s w)
   unfolding append put

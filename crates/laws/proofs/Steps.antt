@@ -10,6 +10,7 @@ use Rattle.rules.specs.Words.{index}
 use Rattle.rules.specs.Registers.{registers, wdescReg, areg}
 use Rattle.rules.specs.Work.{Work, reg, put, lower, priority, stop}
 use Rattle.rules.specs.Timers.{tptrLoc, insertFirstStep, deleteFirstStep}
+use Rattle.laws.specs.Alike.{Whole}
 use Rattle.laws.specs.Stops.{going, insertStarted, deleteStarted, insertStops, deleteStops}
 use Rattle.laws.proofs.Lawful.{kept, lawful-lower, lawful-wIndexWord}
 use Rattle.laws.proofs.LawfulTimerQueues.{lawful-insertWalk}
@@ -29,11 +30,11 @@ lower-answer : (k mask : ℕ) (w : Work) → lower k mask w .answer ≡ w .answe
 unfolding lower put
 lower-answer k mask w = refl
 
-module _ (m : List ℕ) (w : Work) (count : length (w .regs) ≡ registers) where
-  pub started-count : length (insertStarted m w .regs) ≡ registers
+module _ (m : List ℕ) (w : Work) (count : Whole w) where
+  pub started-count : Whole (insertStarted m w)
   started-count = kept (lawful-wIndexWord _ _ _) m (kept (lawful-wIndexWord _ _ _) m (any-fine w count)) .count
 
-  pub off-count : length (deleteStarted w .regs) ≡ registers
+  pub off-count : Whole (deleteStarted w)
   off-count = kept (lawful-lower _ _) m (any-fine w count) .count
 
   pub off-answer : w .answer ≡ 0 → deleteStarted w .answer ≡ 0

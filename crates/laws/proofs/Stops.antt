@@ -20,9 +20,10 @@ use Rattle.rules.specs.Channels.{readyStatus, readyContent, handleReadyRequest,
 use Rattle.rules.specs.Operations.{registerOperations, otherOperations, operations, operate}
 use Rattle.rules.specs.declared.Attempt.{Attempt}
 use Rattle.rules.proofs.Tests.{yes-lt, no-lt, yes-eq, no-eq, cases-eq, cases-lt}
+use Rattle.laws.specs.Alike.{Whole}
 use Rattle.laws.specs.Ring.{isOutside}
 use Rattle.laws.specs.Stops.{Place, going, insertStops, shiftStops, longShiftStops, isMark, unmarked, enbtStops, tinStops, distStops, stateLoaded, markStops, taltwtStops, deleteStops, stopPlaces, canStop, nowhere, readyOrWaiting, channelStatus, requestStops, timerStops}
-use Rattle.laws.proofs.Fine.{fine-access, fine-put, fine-putCore, fine-refuse}
+use Rattle.laws.proofs.Fine.{fine-load, fine-put, fine-putCore, fine-refuse}
 use Rattle.laws.proofs.Lawful.{kept, lawful-lower, lawful-rIndexWord, lawful-wIndexWord}
 use Rattle.laws.proofs.LawfulScheduling.{lawful-wait}
 use Rattle.laws.proofs.LawfulTimers.{lawful-deleteFirstStep, lawful-distLink, lawful-distReady, lawful-dropB, lawful-enbtEarlier, lawful-enbtFirst, lawful-enbtGuard, lawful-enbtLink, lawful-nextTime, lawful-timeNow, lawful-timedOut, lawful-timerStatus, lawful-timerUnlink}
@@ -34,7 +35,7 @@ use Rattle.laws.proofs.Steps.{insert-stops, delete-stops}
 
 -- work that has not been refused
 pub record Begun (w : Work) : Type 0 where
-  pub count : length (w .regs) ≡ registers
+  pub count : Whole w
   pub none : w .answer ≡ 0
 
 calm : {w : Work} → Begun w → Calm w
@@ -107,7 +108,7 @@ mark-stops m {w} c =
     loaded = kept (lawful-rIndexWord _ _ _) m c
 
     neither : Tells ((going w && true) || false) (refuse stop w)
-    neither = or-false (going w && true) ∙ tells-going w (refuse stop w) true c (λ P t f. fine-refuse stop (t stop) f) (λ e. tells-stop w e)
+    neither = or-false (going w && true) ∙ tells-going w (refuse stop w) true c (λ P t f. fine-refuse stop (λ q. omega (arith, q)) (t stop) f) (λ e. tells-stop w e)
 
 taltwt-stops : (m : List ℕ) {w : Work} → Begun w → Tells (taltwtStops m w) (taltwt m w)
 unfolding taltwtStops taltwt taltwtState
@@ -127,12 +128,12 @@ enbt-link-stops m link {w} b =
     cases-eq link timeNotSet
     (λ e. rw (yes-eq e, eq-eqb link timeNotSet e) (tells-calm (kept lawful-enbtFirst m (calm b))))
     (λ n. cases-eq link timeSet
-    (λ e. rw (no-eq n, yes-eq e, ne-eqb link timeNotSet n, eq-eqb link timeSet e) (tells-calm (kept (lawful-enbtEarlier _) m (fine-access m kindLoad _ (calm b)))))
+    (λ e. rw (no-eq n, yes-eq e, ne-eqb link timeNotSet n, eq-eqb link timeSet e) (tells-calm (kept (lawful-enbtEarlier _) m (fine-load m _ (calm b)))))
     (λ k. rw (no-eq n, no-eq k, ne-eqb link timeNotSet n, ne-eqb link timeSet k) (tells-stop w (b .none))))
 
 enbt-stops : (m : List ℕ) {w : Work} → Begun w → Tells (enbtStops m w) (enbt m w)
 unfolding enbtStops unmarked enbt enbtGuard
-enbt-stops m {w} b = guard ∙ same-stop (enbtGuard m w) (enbt m w) (kept (lawful-enbtGuard (λ k a z kind address. tt)) m (any-fine w (b .count)) .count) (λ P t f. kept lawful-dropB m f)
+enbt-stops m {w} b = guard ∙ same-stop (enbtGuard m w) (enbt m w) (kept (lawful-enbtGuard (λ k a z kind address p. tt)) m (any-fine w (b .count)) .count) (λ P t f. kept lawful-dropB m f)
   where
     guard : Tells (enbtStops m w) (enbtGuard m w)
     guard =
@@ -147,9 +148,9 @@ dist-link-stops m link {w} b =
     cases-eq link timeNotSet
     (λ e. rw (yes-eq e, eq-eqb link timeNotSet e) (tells-calm (fine-put areg 0 (calm b))))
     (λ n. cases-eq link timeSet
-    (λ e. rw (no-eq n, yes-eq e, ne-eqb link timeNotSet n, eq-eqb link timeSet e) (tells-calm (kept (lawful-distReady _) m (fine-access m kindLoad _ (calm b)))))
+    (λ e. rw (no-eq n, yes-eq e, ne-eqb link timeNotSet n, eq-eqb link timeSet e) (tells-calm (kept (lawful-distReady _) m (fine-load m _ (calm b)))))
     (λ k. rw (no-eq n, no-eq k, ne-eqb link timeNotSet n, ne-eqb link timeSet k)
-    (delete-stops m w (b .count) (b .none) ∙ same-stop (deleteFirstStep m w) (put areg 0 (deleteFirstStep m w)) (kept (lawful-deleteFirstStep (λ k a z kind address. tt)) m (any-fine w (b .count)) .count) (λ P t f. fine-put areg 0 f))))
+    (delete-stops m w (b .count) (b .none) ∙ same-stop (deleteFirstStep m w) (put areg 0 (deleteFirstStep m w)) (kept (lawful-deleteFirstStep (λ k a z kind address p. tt)) m (any-fine w (b .count)) .count) (λ P t f. fine-put areg 0 f))))
 
 dist-stops : (m : List ℕ) {w : Work} → Begun w → Tells (distStops m w) (dist m w)
 unfolding distStops unmarked dist
@@ -177,14 +178,14 @@ front-stops : (m : List ℕ) (queue front : ℕ) {w : Work} → Calm w
 unfolding timerWake
 front-stops m queue front {w} c =
     regroup (going w) _ _ (timerWake m queue front w)
-    (tells-going w (timerWake m queue front w) _ c (λ P t f. kept (lawful-timerStatus (t stop) _ _ _) m (fine-access m kindLoad _ f))
+    (tells-going w (timerWake m queue front w) _ c (λ P t f. kept (lawful-timerStatus (t stop) _ _ _) m (fine-load m _ f))
     (λ e. let b : Begun w = record { count = c .count; none = e } in
     tells-read m (atWord front pointerS) (timerStatus m queue front) w _ (c .count) e (λ P t f. kept (lawful-timerStatus (t stop) _ _ _) m f) (status-stops m queue front _ b)))
 
 pub timer-stops : (m : List ℕ) (queue : ℕ) {w : Work} → Begun w → Tells (timerStops queue m w) (handleTimerRequest m queue w)
 unfolding timerStops handleTimerRequest timerServe timerFront lower put wordAt
 timer-stops m queue {w} b =
-    front-stops m queue _ (kept (lawful-timerUnlink _ _ _) m (fine-access m kindLoad _ (fine-access m kindLoad _ (kept (lawful-lower flagsReg (tEnabled queue)) m (calm b)))))
+    front-stops m queue _ (kept (lawful-timerUnlink _ _ _) m (fine-load m _ (fine-load m _ (kept (lawful-lower flagsReg (tEnabled queue)) m (calm b)))))
 
 ready-status-stops : (m : List ℕ) (content status : ℕ) {w : Work} → Begun w
     → Tells (not (eqb status enabling || readyOrWaiting status)) (readyStatus m content status w)

@@ -18,8 +18,9 @@ use Rattle.rules.specs.Scheduling.{tlinkS, notProcess, timeS}
 use Rattle.rules.specs.Timers.{insertFinalStep, insertWalk, deleteFinalStep, deleteWalk}
 use Rattle.rules.proofs.Tests.{cases-lt, yes-eq, no-eq, on-pick, on-eq}
 use Rattle.laws.specs.Alike.{Unrefused}
+use Rattle.laws.specs.Alike.{Whole}
 use Rattle.laws.specs.Ring.{Way, end, round, Walks, again, stays, goes, comesAgain, isOutside, nextPointer, insertEnds, insertRings, InsertRing, deleteEnds, deleteRings, DeleteRing}
-use Rattle.laws.proofs.Fine.{Fine, fine-access}
+use Rattle.laws.proofs.Fine.{Fine, fine-load}
 use Rattle.laws.proofs.Ring.{budget, budget-round, budget-end, no-end, refused-iff, again-iff}
 use Rattle.laws.proofs.Calm.{never, Calm, Tells, tells-calm, tells-iff, calm-none, inside-same, outside-calm}
 use Rattle.laws.proofs.Lawful.{longer, same-word, kept}
@@ -93,7 +94,7 @@ walk-longer m x {w} {ends} {ends′} k k′ u on previous e =
 
 -- ---- insertion
 
-module _ (m : List ℕ) (time : ℕ) (w : Work) (count : length (w .regs) ≡ registers) (none : w .answer ≡ 0) where
+module _ (m : List ℕ) (time : ℕ) (w : Work) (count : Whole w) (none : w .answer ≡ 0) where
   -- a turn whose own pointer is inside memory
   insert-turn : (turns previous : ℕ) → index previous < length m
       → insertWalk m (suc turns) time previous w
@@ -102,7 +103,7 @@ module _ (m : List ℕ) (time : ℕ) (w : Work) (count : length (w .regs) ≡ re
       (insertWalk m turns time (atWord (wordAt m previous w) tlinkS) (access m kindLoad (atWord (wordAt m previous w) timeS) w))
       (insertFinalStep m previous (wordAt m previous w) (access m kindLoad (atWord (wordAt m previous w) timeS) w)))
   unfolding insertWalk
-  insert-turn turns previous h = rw (inside-same m 2 previous w h)
+  insert-turn turns previous h = rw (inside-same m 2 previous w (count .1) h)
 
   -- a turn whose own pointer is outside
   insert-outside : (turns previous : ℕ) → length m ≤ index previous → Calm (insertWalk m (suc turns) time previous w)
@@ -113,8 +114,8 @@ module _ (m : List ℕ) (time : ℕ) (w : Work) (count : length (w .regs) ≡ re
       (λ P t f.
       on-eq (Fine P) p notProcess (kept (lawful-insertFinalStep previous p) m f)
       (on-pick (Fine P) (later time (wordAt m (atWord p timeS) (access m kindLoad previous w)))
-      (kept (lawful-insertWalk (t stop) turns time (atWord p tlinkS)) m (fine-access m 2 _ f))
-      (kept (lawful-insertFinalStep previous p) m (fine-access m 2 _ f))))
+      (kept (lawful-insertWalk (t stop) turns time (atWord p tlinkS)) m (fine-load m _ f))
+      (kept (lawful-insertFinalStep previous p) m (fine-load m _ f))))
 
   -- what it means that the walk does not end at p
   pub insert-goes : (p : ℕ) → insertEnds m w time p ≡ false
@@ -148,7 +149,7 @@ module _ (m : List ℕ) (time : ℕ) (w : Work) (count : length (w .regs) ≡ re
       on = access m kindLoad (atWord p timeS) w
 
       found : Calm (insertFinalStep m previous p on)
-      found = kept (lawful-insertFinalStep previous p) m (fine-access m 2 (atWord p timeS) calm)
+      found = kept (lawful-insertFinalStep previous p) m (fine-load m (atWord p timeS) calm)
 
       go : (a : Bool) → eqb p notProcess ≡ a → (b : Bool) → isOutside m (atWord p timeS) ≡ b → (c : Bool) → later time (wordAt m (atWord p timeS) w) ≡ c
           → pick a true (pick b true (pick c (isOutside m (atWord p tlinkS)) true)) ≡ true
@@ -163,7 +164,7 @@ module _ (m : List ℕ) (time : ℕ) (w : Work) (count : length (w .regs) ≡ re
           found)
       go false ea false eb false ec z = rw ec (on-eq Calm p notProcess (kept (lawful-insertFinalStep previous p) m calm) found)
       go false ea false eb true ec z =
-          let same : on ≡ w = inside-same m 2 (atWord p timeS) w (leb-false _ _ eb) in
+          let same : on ≡ w = inside-same m 2 (atWord p timeS) w (count .1) (leb-false _ _ eb) in
           rw (ec, same) (on-eq Calm p notProcess (kept (lawful-insertFinalStep previous p) m calm) (insert-outside turns (atWord p tlinkS) (leb-true _ _ z)))
 
   -- one turn of a walk that goes on
@@ -172,7 +173,7 @@ module _ (m : List ℕ) (time : ℕ) (w : Work) (count : length (w .regs) ≡ re
   insert-on turns previous h e =
       let g = insert-goes (wordAt m previous w) e in
       insert-turn turns previous h
-      ∙ rw (no-eq (g .0), g .2, inside-same m 2 (atWord (wordAt m previous w) timeS) w (g .1))
+      ∙ rw (no-eq (g .0), g .2, inside-same m 2 (atWord (wordAt m previous w) timeS) w (count .1) (g .1))
 
   pub insert-walk : Walk m w (insertEnds m w time) (λ turns previous. insertWalk m turns time previous w)
   unfolding insertWalk refuseAt
@@ -197,13 +198,13 @@ module _ (m : List ℕ) (time : ℕ) (w : Work) (count : length (w .regs) ≡ re
 
 -- ---- deletion
 
-module _ (m : List ℕ) (w : Work) (count : length (w .regs) ≡ registers) (none : w .answer ≡ 0) where
+module _ (m : List ℕ) (w : Work) (count : Whole w) (none : w .answer ≡ 0) where
   -- a turn whose own pointer is inside memory
   delete-turn : (turns previous : ℕ) → index previous < length m
       → deleteWalk m (suc turns) previous w
       ≡ ifEq (wordAt m previous w) (wptr w) (deleteFinalStep m previous w) (deleteWalk m turns (atWord (wordAt m previous w) tlinkS) w)
   unfolding deleteWalk
-  delete-turn turns previous h = rw (inside-same m 2 previous w h)
+  delete-turn turns previous h = rw (inside-same m 2 previous w (count .1) h)
 
   -- a turn whose own pointer is outside
   delete-outside : (turns previous : ℕ) → length m ≤ index previous → Calm (deleteWalk m (suc turns) previous w)

@@ -1,4 +1,4 @@
--- 01's number determines the answer, and the outcome of a call determines its reply, memory and journal: no second answer meets a contract that
+-- Number, part and address determine the answer, and the outcome of a call determines its reply, memory and journal: no second answer meets a contract that
 -- is an equation of outcomes (01, What the contracts have to say).
 use mathlib.Core.Path.{_≡_, refl, sym, ap, _∙_}
 use mathlib.Core.Bool.{Bool, true, false}
@@ -8,17 +8,23 @@ use native.Mathlib.Omega.{arith}
 use borrow.Author.Tests.{eqb-true, eqb-false}
 use lib.Dec.{eqb}
 use lib.ListN.{length}
-use Rattle.rules.specs.Tests.{pick, look}
-use Rattle.rules.specs.Calls.{numberOf, Outcome, outcomeOf}
+use Rattle.rules.specs.Tests.{pick, ifLt, ifEq, look}
+use Rattle.rules.specs.Work.{outside, kindFetch, kindLoad, kindStore}
+use Rattle.rules.specs.Calls.{numbered, Outcome, outcomeOf}
 use Rattle.rules.specs.declared.Reply.{Reply}
 use Rattle.rules.specs.declared.Answer.{Answer}
-use Rattle.rules.specs.declared.Answer.the-variants.{Done, Size, CodeSize, BadChannel, JournalBad, NothingToUndo, Halted, Idle, NotReady, Unlisted, Outside, Stop, JournalFull}
-use Rattle.laws.specs.Answers.{answers, answerOf}
+use Rattle.rules.specs.declared.Answer.the-variants.{Done, Size, CodeSize, BadChannel, JournalBad, NothingToUndo, Halted, Idle, NotReady, Unlisted, OutsideFetch, OutsideLoad, OutsideStore, Stop, JournalFull}
+use Rattle.rules.proofs.Tests.{yes-lt, no-lt, yes-eq, no-eq, cases-lt, cases-eq}
+use Rattle.laws.specs.Answers.{before, outsideAnswer, after, answerOf, Known}
 
--- ---- 01's number determines the answer
+-- ---- number, part and address determine the answer
 
-pub answer-number : (a : Answer) → answerOf (numberOf a) ≡ a
-unfolding answerOf numberOf
+-- the answer of a number, part and address
+abbrev pub answerFor : ℕ × ℕ × ℕ → Answer
+answerFor t = answerOf (t .0) (t .1) (t .2)
+
+pub answer-number : (a : Answer) → answerFor (numbered a) ≡ a
+unfolding answerOf numbered ifLt ifEq
 answer-number Done = refl
 answer-number Size = refl
 answer-number CodeSize = refl
@@ -29,35 +35,59 @@ answer-number Halted = refl
 answer-number Idle = refl
 answer-number NotReady = refl
 answer-number Unlisted = refl
-answer-number Outside = refl
+answer-number (OutsideFetch a) = refl
+answer-number (OutsideLoad a) = refl
+answer-number (OutsideStore a) = refl
 answer-number Stop = refl
 answer-number JournalFull = refl
 
--- a table that counts from c on
+-- a table that counts from c on, of answers without an access
 abbrev Counts : ℕ → List (ℕ × Answer) → Type 0
 Counts c [] = Unit {0}
-Counts c (e ∷ t) = (e .0 ≡ c) × (numberOf (e .1) ≡ c) × Counts (suc c) t
+Counts c (e ∷ t) = (e .0 ≡ c) × (numbered (e .1) ≡ (c, 0, 0)) × Counts (suc c) t
 
-look-counts : (c : ℕ) (t : List (ℕ × Answer)) → Counts c t → (n : ℕ) → c ≤ n → n < c + length t → numberOf (look t n Done) ≡ n
+look-counts : (c : ℕ) (t : List (ℕ × Answer)) → Counts c t → (n : ℕ) → c ≤ n → n < c + length t → numbered (look t n Done) ≡ (n, 0, 0)
 look-counts c [] k n l u = absurd (omega arith)
 look-counts c (e ∷ t) k n l u = go (eqb n (e .0)) refl (λ q. look-counts (suc c) t (k .2) n q (omega arith))
   where
-    go : (b : Bool) → eqb n (e .0) ≡ b → (suc c ≤ n → numberOf (look t n Done) ≡ n) → numberOf (pick b (e .1) (look t n Done)) ≡ n
-    go true h f = k .1 ∙ sym (eqb-true n (e .0) h ∙ k .0)
+    go : (b : Bool) → eqb n (e .0) ≡ b → (suc c ≤ n → numbered (look t n Done) ≡ (n, 0, 0)) → numbered (pick b (e .1) (look t n Done)) ≡ (n, 0, 0)
+    go true h f = k .1 ∙ ap (λ (i : ℕ). (i, 0, 0)) (sym (eqb-true n (e .0) h ∙ k .0))
     go false h f = f (omega (arith, eqb-false n (e .0) h))
 
--- and each number of the table is that of an answer
-pub number-answer : (n : ℕ) → n ≤ 12 → numberOf (answerOf n) ≡ n
-unfolding answerOf numberOf
-number-answer n h =
-    look-counts 0 answers
-    (refl, refl, (refl, refl, (refl, refl, (refl, refl, (refl, refl, (refl, refl, (refl, refl, (refl, refl, (refl, refl, (refl, refl, (refl, refl, (refl, refl, (refl, refl, tt)))))))))))))
-    n
-    (omega arith)
-    (omega arith)
+-- and each number of the table, with its part and address, is that of an answer
+pub number-answer : (n part a : ℕ) → Known n part a → numbered (answerOf n part a) ≡ (n, part, a)
+unfolding answerOf numbered
+number-answer n part a k =
+    cases-lt n outside
+    (λ h. rw (yes-lt h) (first h ∙ bare (λ e. omega (arith, e, h))))
+    (λ h. cases-eq n outside
+    (λ e. rw (no-lt h, yes-eq e) (second e))
+    (λ e. rw (no-lt h, no-eq e) (third (omega (arith, e, h)) ∙ bare e)))
+  where
+    bare : (n ≡ outside → ⊥) → _≡_ {A = ℕ × ℕ × ℕ} (n, 0, 0) (n, part, a)
+    bare e = let p = k .proper .bare e in rw (p .0, p .1)
 
-pub one-answer : (a b : Answer) → numberOf a ≡ numberOf b → a ≡ b
-one-answer a b e = sym (answer-number a) ∙ ap answerOf e ∙ answer-number b
+    first : n < outside → numbered (look before n Done) ≡ (n, 0, 0)
+    first h =
+        look-counts 0 before
+        (refl, refl, (refl, refl, (refl, refl, (refl, refl, (refl, refl, (refl, refl, (refl, refl, (refl, refl, (refl, refl, (refl, refl, tt))))))))))
+        n
+        (omega arith)
+        h
+
+    second : n ≡ outside → numbered (outsideAnswer part a) ≡ (n, part, a)
+    second e =
+        cases-eq part kindFetch
+        (λ f. rw (yes-eq f, e, f))
+        (λ f. cases-eq part kindLoad
+        (λ l. rw (no-eq f, yes-eq l, e, l))
+        (λ l. let p = k .proper .parts e in rw (no-eq f, no-eq l, e) (ap (λ (i : ℕ). (outside, i, a)) (omega (arith, p, f, l)))))
+
+    third : outside < n → numbered (look after n Done) ≡ (n, 0, 0)
+    third h = look-counts 11 after (refl, refl, (refl, refl, tt)) n (omega (arith, h)) (omega (arith, k .most))
+
+pub one-answer : (a b : Answer) → numbered a ≡ numbered b → a ≡ b
+one-answer a b e = sym (answer-number a) ∙ ap answerFor e ∙ answer-number b
 
 -- ---- the outcome of a call determines its reply, memory and journal
 
@@ -70,7 +100,7 @@ pub one-outcome : (r r′ : Reply) (mem mem′ j j′ : List ℕ) (o : Outcome) 
     → (r ≡ r′) × (mem ≡ mem′) × (j ≡ j′)
 one-outcome r r′ mem mem′ j j′ o a b =
     let e : outcomeOf r mem j ≡ outcomeOf r′ mem′ j′ = a ∙ sym b in (
-      same-reply r r′ (ap (λ (x : Outcome). x .machine) e) (one-answer (r .answer) (r′ .answer) (ap (λ (x : Outcome). x .answer) e)) (ap (λ (x : Outcome). x .byte) e),
+      same-reply r r′ (ap (λ (x : Outcome). x .machine) e) (one-answer (r .answer) (r′ .answer) (ap (λ (x : Outcome). (x .answer, x .part, x .address)) e)) (ap (λ (x : Outcome). x .byte) e),
       ap (λ (x : Outcome). x .memory) e,
       ap (λ (x : Outcome). x .journal) e,
     )

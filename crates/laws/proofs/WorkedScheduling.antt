@@ -8,7 +8,7 @@ use Rattle.rules.specs.Tests.{ifLt, ifLe, ifEq}
 use Rattle.rules.specs.Core.{gotoSNPBit}
 use Rattle.rules.specs.Registers.{registers}
 use Rattle.rules.specs.Memory.{word, bytes, byteIn, setByteIn, moved, within, storing, stores}
-use Rattle.rules.specs.Work.{Work, begin, put, raise, lower, gotoSNP, refuseAt, append, wordAt, access, storeWord, rIndexWord, wIndexWord, moveOutside, moveOrRefuse, transfer}
+use Rattle.rules.specs.Work.{Work, untraced, begin, put, raise, lower, gotoSNP, refuseAt, append, wordAt, access, storeWord, rIndexWord, wIndexWord, moveOutside, moveOrRefuse, transfer}
 use Rattle.rules.specs.Scheduling.{notProcess, clearIdle, startSlice, resumed, maskStatus, unlinkFront, dequeue, activateProcess, save, saveRest, saveEreg, saveRegisters, restore, restoreRest, restoreRegisters, interrupt, runOverLow, run, startQueued, resumeOrStart, nextHigh, nextLow, nextProcess, startNextProcess, actOnSNP, saveIptr, stopp}
 use Rattle.rules.specs.Data.{popped, moveDone, stl, blockMove}
 
@@ -41,6 +41,7 @@ pub after-stopp :
       answer = 0;
       kind = 0;
       address = 0;
+      trace = untraced;
     }
 unfolding ifLt ifLe ifEq put raise lower gotoSNP refuseAt append wordAt access storeWord rIndexWord wIndexWord stores storing clearIdle resumed restore restoreRest restoreRegisters resumeOrStart nextHigh nextProcess startNextProcess actOnSNP saveIptr stopp
 after-stopp = refl
@@ -65,6 +66,7 @@ pub after-stl :
       answer = 0;
       kind = 0;
       address = 0;
+      trace = untraced;
     }
 unfolding ifLt ifLe ifEq put raise lower refuseAt append wordAt access storeWord rIndexWord wIndexWord stores storing popped stl clearIdle startSlice unlinkFront dequeue activateProcess startQueued nextLow nextProcess startNextProcess actOnSNP
 after-stl = refl
@@ -91,6 +93,7 @@ pub after-move :
       answer = 0;
       kind = 0;
       address = 0;
+      trace = untraced;
     }
 unfolding ifLt ifLe ifEq put raise lower refuseAt append wordAt access storeWord rIndexWord wIndexWord moveOutside moveOrRefuse transfer stores storing within moved byteIn setByteIn moveDone blockMove clearIdle resumed restore restoreRest restoreRegisters resumeOrStart nextHigh nextProcess startNextProcess actOnSNP
 after-move = refl
@@ -116,6 +119,7 @@ pub after-run :
       answer = 0;
       kind = 0;
       address = 0;
+      trace = untraced;
     }
 unfolding ifLt ifLe ifEq put raise lower refuseAt append wordAt access storeWord rIndexWord wIndexWord stores storing clearIdle maskStatus activateProcess save saveRest saveEreg saveRegisters interrupt runOverLow run
 after-run = refl

@@ -1,13 +1,15 @@
--- The answer of each of 01's numbers: the inverse of `numberOf`.
+-- The answer of each number, part and address: the inverse of `numbered`.
+use mathlib.Core.Path.{_≡_}
 use mathlib.Core.List.{List, [], _∷_}
-use Prim.Native.Nat.{ℕ}
-use Rattle.rules.specs.Tests.{look}
+use Prim.Native.Nat.{ℕ, _≤_}
+use Rattle.rules.specs.Tests.{ifLt, ifEq, look}
+use Rattle.rules.specs.Work.{outside, kindFetch, kindLoad, kindStore}
 use Rattle.rules.specs.declared.Answer.{Answer}
-use Rattle.rules.specs.declared.Answer.the-variants.{Done, Size, CodeSize, BadChannel, JournalBad, NothingToUndo, Halted, Idle, NotReady, Unlisted, Outside, Stop, JournalFull}
+use Rattle.rules.specs.declared.Answer.the-variants.{Done, Size, CodeSize, BadChannel, JournalBad, NothingToUndo, Halted, Idle, NotReady, Unlisted, OutsideFetch, OutsideLoad, OutsideStore, Stop, JournalFull}
 
--- 01's numbers with their answers; 0 is accepted (01, Answers by number; DECISIONS 45)
-abbrev pub answers : List (ℕ × Answer)
-answers =
+-- 01's numbers before 10, with their answers; 0 is accepted (01, Answers by number; DECISIONS 45)
+abbrev pub before : List (ℕ × Answer)
+before =
     (0, Done)
     ∷ (1, Size)
     ∷ (2, CodeSize)
@@ -18,11 +20,27 @@ answers =
     ∷ (7, Idle)
     ∷ (8, NotReady)
     ∷ (9, Unlisted)
-    ∷ (10, Outside)
-    ∷ (11, Stop)
-    ∷ (12, JournalFull)
     ∷ []
 
--- the answer of a number; Done where the number is none of 01's (01, Answers by number; DECISIONS 45)
-unfoldable pub answerOf : ℕ → Answer
-answerOf n = look answers n Done
+-- the parts of 10: 10a, 10b, 10c (02, No. 1; DECISIONS 58)
+abbrev pub outsideAnswer : ℕ → ℕ → Answer
+outsideAnswer part a = ifEq part kindFetch (OutsideFetch a) (ifEq part kindLoad (OutsideLoad a) (OutsideStore a))
+
+-- 01's numbers after 10 (01, Answers by number; DECISIONS 45)
+abbrev pub after : List (ℕ × Answer)
+after = (11, Stop) ∷ (12, JournalFull) ∷ []
+
+-- the answer of a number, part and address; of 10 without a part OutsideStore, of a number that is none of 01's Done
+-- (01, Answers by number; DECISIONS 45, 58)
+unfoldable pub answerOf : ℕ → ℕ → ℕ → Answer
+answerOf n part a = ifLt n outside (look before n Done) (ifEq n outside (outsideAnswer part a) (look after n Done))
+
+-- 10 has a part, 1 to 3; another number has neither part nor address (02, No. 1; DECISIONS 58)
+pub record Proper (n part a : ℕ) : Type 0 where
+  pub parts : n ≡ outside → (kindFetch ≤ part) × (part ≤ kindStore)
+  pub bare : (n ≡ outside → ⊥) → (part ≡ 0) × (a ≡ 0)
+
+-- number, part and address of an answer (01, Answers by number; DECISIONS 45, 58)
+pub record Known (n part a : ℕ) : Type 0 where
+  pub most : n ≤ 12
+  pub proper : Proper n part a

@@ -18,7 +18,7 @@ use Rattle.rules.specs.Channels.{requested}
 use Rattle.rules.specs.Operations.{Action, pure, pureOrStop}
 use Rattle.rules.specs.Step.{choose}
 use Rattle.rules.specs.Journal.{recordOf, pairsAt, writeBack}
-use Rattle.rules.specs.Calls.{numberOf, notOutput}
+use Rattle.rules.specs.Calls.{numbered, notOutput}
 use Rattle.rules.specs.declared.Answer.the-variants.{Halted, Unlisted}
 use Rattle.rules.specs.Starred.{Settings, has, word40}
 use Rattle.laws.specs.Accesses.{Instruction, registersFor, memoryFor, running, mine, other}
@@ -108,7 +108,7 @@ edges =
     -- channel 4 is no output link. With the bound at 5, channel 4 would be one (01, Answers by number, 3)
     ∷ notOutput 4
     -- Halted is 6. As Idle it would be 7 (01, Answers by number)
-    ∷ eqb (numberOf Halted) 6
+    ∷ eqb (numbered Halted .0) 6
     -- Unlisted is 9. A call refused with 8 that answers Unlisted would have the number 9 (01, Answers by number)
-    ∷ eqb (numberOf Unlisted) 9
+    ∷ eqb (numbered Unlisted .0) 9
     ∷ []

@@ -5,7 +5,7 @@ use mathlib.Core.Path.{_≡_}
 use mathlib.Core.List.{List, [], _∷_, _++_}
 use lib.ListN.{getD, take, drop}
 use Rattle.rules.specs.Memory.{Store, word, bytes}
-use Rattle.rules.specs.Work.{Work}
+use Rattle.rules.specs.Work.{Work, untraced}
 
 -- indices and values as stores of single words (DECISIONS 44)
 abbrev pub singles : List ℕ → List ℕ → List Store
@@ -71,7 +71,7 @@ storesOf g = logged (indicesOf g) (valuesOf g) (numberOf g) (cutOf g) (sourceOf 
 
 -- the Work that registers and a log stand for (DECISIONS 44)
 abbrev pub view : List ℕ → List ℕ → Work
-view r g = record { regs = r; stored = storesOf g; answer = answerOf g; kind = kindOf g; address = addressOf g }
+view r g = record { regs = r; stored = storesOf g; answer = answerOf g; kind = kindOf g; address = addressOf g; trace = untraced }
 
 -- ---- room
 

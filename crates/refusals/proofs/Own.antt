@@ -94,7 +94,7 @@ module _ (r mem : List ℕ) (h : length r ≡ registers) where
   abbrev afterFetch : Work
   afterFetch = fetched (nextByte r mem) (begin r)
 
-  fetch-count : length (afterFetch .regs) ≡ registers
+  fetch-count : Whole afterFetch
   fetch-count = kept (lawful-fetched _) mem (any-fine (begin r) h) .count
 
   fetch-answer : afterFetch .answer ≡ 0
@@ -201,7 +201,7 @@ module _ (r mem : List ℕ) (h : length r ≡ registers) where
       (λ f a b. rw (f, a, b) (timer-stops mem 1 begun ∙ after _ (kept (lawful-handleTimerRequest (λ k a z kind address. tt) 1) mem (any-fine (begin r) h) .count)))
       (λ f. yes f _ _ ∙ told-instruction 11 (λ q. omega (arith, q)) (λ q. omega (arith, q)) _ (sym (place-fetched (nextCode r mem) (nextByte r mem) mem (begin r)) ∙ operate-stops (nextCode r mem) mem fetch-begun) f)
     where
-      after : (w : Work) → length (w .regs) ≡ registers → eqb (w .answer) stop ≡ eqb (actOnSNP mem w .answer) stop
+      after : (w : Work) → Whole w → eqb (w .answer) stop ≡ eqb (actOnSNP mem w .answer) stop
       after w k = same-stop w (actOnSNP mem w) k (λ P t f. kept lawful-actOnSNP mem f)
 
   -- its answer, in the table's order

@@ -57,7 +57,7 @@ and-true a b e = rw e
 
 -- ---- the walks
 
-module _ (mem : List ℕ) (large : 64 ≤ length mem) (w : Work) (h : length (w .regs) ≡ registers) where
+module _ (mem : List ℕ) (large : 64 ≤ length mem) (w : Work) (h : Whole w) where
   queue : not (isOutside mem (tptrLoc (priority w))) ≡ true
   queue = rw (lt-leb (length mem) (index (tptrLoc (priority w))) (queue-inside mem w large))
 
@@ -76,7 +76,7 @@ module _ (mem : List ℕ) (large : 64 ≤ length mem) (w : Work) (h : length (w 
       first : ℕ
       first = wordAt mem (tptrLoc (priority w)) started
 
-      count : length (started .regs) ≡ registers
+      count : Whole started
       count = started-count mem w h
 
   delete-iff : w .answer ≡ 0 → (deleteStops mem w ≡ true) ↔ DeletesInRing mem w
@@ -85,7 +85,7 @@ module _ (mem : List ℕ) (large : 64 ≤ length mem) (w : Work) (h : length (w 
 
 -- ---- the operations that walk
 
-module _ (mem : List ℕ) (large : 64 ≤ length mem) (w : Work) (h : length (w .regs) ≡ registers) where
+module _ (mem : List ℕ) (large : 64 ≤ length mem) (w : Work) (h : Whole w) where
   tin-iff : (tinStops mem w ≡ true) ↔ TinRing mem w
   unfolding tinStops
   tin-iff = then-both _ _ (not-iff (later (reg (clockReg (priority w)) w) (reg areg w))) (insert-iff mem large (nextTime w) (kept lawful-nextTime mem (any-fine w h) .count))

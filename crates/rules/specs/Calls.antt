@@ -10,7 +10,7 @@ use lib.Seq.{sets}
 use Rattle.rules.specs.Tests.{pick, ifLt, ifEq}
 use Rattle.rules.specs.Registers.{registers, iptrReg, wdescReg, fptrReg}
 use Rattle.rules.specs.Memory.{touched, stores}
-use Rattle.rules.specs.Work.{Work, begin}
+use Rattle.rules.specs.Work.{Work, begin, outside, kindFetch, kindLoad, kindStore}
 use Rattle.rules.specs.Scheduling.{notProcess, memStart, memStartWord}
 use Rattle.rules.specs.Links as links
 use Rattle.rules.specs.Step as steps
@@ -18,30 +18,37 @@ use Rattle.rules.specs.Journal.{recordLength, recordOf, boundsBad, lastP
 use Rattle.rules.specs.declared.Machine.{Machine}
 use Rattle.rules.specs.declared.Reply.{Reply}
 use Rattle.rules.specs.declared.Answer.{Answer}
-use Rattle.rules.specs.declared.Answer.the-variants.{Done, Size, CodeSize, BadChannel, JournalBad, NothingToUndo, Halted, Idle, NotReady, Unlisted, Outside, Stop, JournalFull}
+use Rattle.rules.specs.declared.Answer.the-variants.{Done, Size, CodeSize, BadChannel, JournalBad, NothingToUndo, Halted, Idle, NotReady, Unlisted, OutsideFetch, OutsideLoad, OutsideStore, Stop, JournalFull}
 
--- ---- answers: 01's number of each; 0 is accepted
+-- ---- answers: number, part and address
 
--- 01's number of each answer; 0 is accepted (01, Answers by number; DECISIONS 45)
-unfoldable pub numberOf : Answer → ℕ
-numberOf Done = 0
-numberOf Size = 1
-numberOf CodeSize = 2
-numberOf BadChannel = 3
-numberOf JournalBad = 4
-numberOf NothingToUndo = 5
-numberOf Halted = 6
-numberOf Idle = 7
-numberOf NotReady = 8
-numberOf Unlisted = 9
-numberOf Outside = 10
-numberOf Stop = 11
-numberOf JournalFull = 12
+-- 01's number of each answer, 0 where it is accepted; the part of 10 (1 is 10a, 2 is 10b, 3 is 10c), which is the kind of the access that was outside
+-- memory, and its byte address; else 0 and 0 (01, Answers by number; 02, No. 1; DECISIONS 45, 58)
+unfoldable pub numbered : Answer → ℕ × ℕ × ℕ
+numbered Done = (0, 0, 0)
+numbered Size = (1, 0, 0)
+numbered CodeSize = (2, 0, 0)
+numbered BadChannel = (3, 0, 0)
+numbered JournalBad = (4, 0, 0)
+numbered NothingToUndo = (5, 0, 0)
+numbered Halted = (6, 0, 0)
+numbered Idle = (7, 0, 0)
+numbered NotReady = (8, 0, 0)
+numbered Unlisted = (9, 0, 0)
+numbered (OutsideFetch a) = (outside, kindFetch, a)
+numbered (OutsideLoad a) = (outside, kindLoad, a)
+numbered (OutsideStore a) = (outside, kindStore, a)
+numbered Stop = (11, 0, 0)
+numbered JournalFull = (12, 0, 0)
 
 -- the outcome of a call: all that a contract determines (01, What the contracts have to say)
 pub record Outcome : Type 0 where
   -- the number of the refusal, 0 where the call is accepted (01, Answers by number)
   pub answer : ℕ
+  -- the part of the refusal 10: 1 for 10a, 2 for 10b, 3 for 10c, else 0 (02, No. 1; DECISIONS 58)
+  pub part : ℕ
+  -- the byte address of the access that was outside memory, else 0 (02, No. 1; DECISIONS 58)
+  pub address : ℕ
   -- the byte of an accepted take, else 0 (01, Answers by number; DECISIONS 45)
   pub byte : ℕ
   -- registers, depth and used afterwards (01, Language forms and where they go)
@@ -54,11 +61,29 @@ pub record Outcome : Type 0 where
 -- the outcome that the code of a call returns: its reply, and the lent words after it (DECISIONS 45)
 abbrev pub outcomeOf : Reply → List ℕ → List ℕ → Outcome
 outcomeOf r mem j =
-    record { answer = numberOf (r .answer); byte = r .byte; machine = r .machine; memory = mem; journal = j }
+    record {
+      answer = numbered (r .answer) .0;
+      part = numbered (r .answer) .1;
+      address = numbered (r .answer) .2;
+      byte = r .byte;
+      machine = r .machine;
+      memory = mem;
+      journal = j;
+    }
 
--- the outcome of a refused call: nothing is changed, and the byte is 0 (01, Answers by number)
+-- the outcome of a call refused with a part and an address: nothing is changed, and the byte is 0 (01, Answers by number; 02, No. 1)
+abbrev pub refusedAt : ℕ → ℕ → ℕ → Machine → List ℕ → List ℕ → Outcome
+refusedAt n part address m mem j =
+    record { answer = n; part = part; address = address; byte = 0; machine = m; memory = mem; journal = j }
+
+-- the outcome of a call refused without an access (01, Answers by number)
 abbrev pub refused : ℕ → Machine → List ℕ → List ℕ → Outcome
-refused n m mem j = record { answer = n; byte = 0; machine = m; memory = mem; journal = j }
+refused n m mem j = refusedAt n 0 0 m mem j
+
+-- the outcome of an accepted call: its byte, and what it leaves (01, Answers by number)
+abbrev pub accepted : ℕ → Machine → List ℕ → List ℕ → Outcome
+accepted byte m mem j =
+    record { answer = 0; part = 0; address = 0; byte = byte; machine = m; memory = mem; journal = j }
 
 -- a machine from its registers, depth and used (01, Language forms and where they go)
 abbrev pub machineOf : List ℕ → ℕ → ℕ → Machine
@@ -84,20 +109,15 @@ sizeBad mem j = memorySizeBad (length mem) || journalSizeBad (length j)
 unfoldable pub recorded : Machine → List ℕ → List ℕ → ℕ → List ℕ → List ℕ → List ℕ → Outcome
 recorded m mem j byte regs ks after =
     ifLt (length j) (m .used + recordLength (length ks)) (refused 12 m mem j)
-    (record {
-      answer = 0;
-      byte = byte;
-      machine = machineOf regs (m .depth + 1) (m .used + recordLength (length ks));
-      memory = after;
-      journal = sets j (m .used) (recordOf mem (m .regs) ks);
-    })
+    (accepted byte (machineOf regs (m .depth + 1) (m .used + recordLength (length ks))) after
+    (sets j (m .used) (recordOf mem (m .regs) ks)))
 
--- commits the work of a call, or refuses with the number of the work; a commit can still be refused with 12 (DECISIONS 25, 44)
+-- commits the work of a call, or refuses with the refusal of the work; a commit can still be refused with 12 (DECISIONS 25, 44, 58)
 unfoldable pub commitOrRefuse : Machine → List ℕ → List ℕ → ℕ → Work → Outcome
 commitOrRefuse m mem j byte w =
     ifEq (w .answer) 0
     (recorded m mem j byte (w .regs) (touched (length mem) (w .stored)) (stores mem (w .stored)))
-    (refused (w .answer) m mem j)
+    (refusedAt (w .answer) (w .kind) (w .address) m mem j)
 
 -- the checks before the work of a call, in the order of the table: 1 Size, 3 BadChannel, 4 JournalBad (01, Answers by number)
 unfoldable pub checked : Bool → Machine → List ℕ → List ℕ → Outcome → Outcome
@@ -142,13 +162,7 @@ event m mem j = checked false m mem j (commitOrRefuse m mem j 0 (links.event (be
 unfoldable pub undone : Machine → List ℕ → List ℕ → List (ℕ × ℕ) → Outcome
 undone m mem j pairs =
     pick (strays (length mem) pairs) (refused 4 m mem j)
-    (record {
-      answer = 0;
-      byte = 0;
-      machine = machineOf (lastRegs j (m .used)) (m .depth - 1) (lastStart j (m .used));
-      memory = writeBack mem pairs;
-      journal = j;
-    })
+    (accepted 0 (machineOf (lastRegs j (m .used)) (m .depth - 1) (lastStart j (m .used))) (writeBack mem pairs) j)
 
 -- undo with depth above 0: 4 JournalBad where the last record is longer than used, then the undo (01, Answers by number)
 unfoldable pub undoLast : Machine → List ℕ → List ℕ → Outcome
@@ -166,7 +180,7 @@ undo m mem j = checked false m mem j (ifEq (m .depth) 0 (refused 5 m mem j) (und
 unfoldable pub clear : Machine → List ℕ → List ℕ → Outcome
 clear m mem j =
     pick (sizeBad mem j) (refused 1 m mem j)
-    (record { answer = 0; byte = 0; machine = machineOf (m .regs) 0 0; memory = mem; journal = j })
+    (accepted 0 (machineOf (m .regs) 0 0) mem j)
 
 -- ---- fresh (01, Memory and registers)
 
@@ -212,10 +226,4 @@ unfoldable pub fresh : List ℕ → List ℕ → List ℕ → Outcome
 fresh code mem j =
     pick (sizeBad mem j) (refused 1 noMachine mem j)
     (pick (codeBad (length mem) (length code)) (refused 2 noMachine mem j)
-    (record {
-      answer = 0;
-      byte = 0;
-      machine = machineOf (freshRegs (length code)) 0 0;
-      memory = freshMemory code 0 (length mem);
-      journal = j;
-    }))
+    (accepted 0 (machineOf (freshRegs (length code)) 0 0) (freshMemory code 0 (length mem)) j))

@@ -33,6 +33,8 @@ unfoldable pub starting : Settings → Settings → Outcome → Outcome
 starting registers words o =
     record {
       answer = o .answer;
+      part = o .part;
+      address = o .address;
       byte = o .byte;
       machine = machineOf (with-settings (o .machine .regs) registers) (o .machine .depth) (o .machine .used);
       memory = with-settings (o .memory) words;
