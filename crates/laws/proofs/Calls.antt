@@ -182,7 +182,7 @@ module _ (m : Machine) (mem j : List ℕ) (h : length (m .regs) ≡ registers) w
 
   pub kept-step : Kept mem j (step m mem j)
   unfolding step
-  kept-step = kept-checked _ _ (λ u. kept-settled _ _ (fine-step mem (turns-known _ (omega arith)) (turns-known _ (omega arith)) (turns-known _ (omega arith)) (turns-known _ (omega arith)) (fine-begin (m .regs) h)))
+  kept-step = kept-checked _ _ (λ u. kept-settled _ _ (fine-step mem (turns-known _ (omega arith)) (turns-known _ (omega arith)) (turns-known _ (omega arith)) (turns-known _ (omega arith)) (turns-known _ (omega arith)) (fine-begin (m .regs) h)))
 
   pub kept-tick : Kept mem j (tick m mem j)
   unfolding tick

@@ -41,14 +41,14 @@ pub not-turns : (n k : ℕ) → (k ≡ n → ⊥) → Turns (Answer (Not n)) k
 not-turns n k h kind a z kind′ address p = h
 
 pub is-fine : (n : ℕ) (w : Work) → Whole w → (0 ≡ n → ⊥) → w .answer ≡ n → Fine (Answer (Is n)) w
-is-fine n w h z e = record { count = h; known = e; ten = λ k a q kind address p. absurd (z q) }
+is-fine n w h z e = record { count = h; known = e; ten = λ k a q kind address low high. absurd (z q) }
 
 pub not-fine : (n : ℕ) (w : Work) → Whole w → (outside ≡ n → ⊥) → (w .answer ≡ n → ⊥) → Fine (Answer (Not n)) w
-not-fine n w h z e = record { count = h; known = e; ten = not-turns n outside z }
+not-fine n w h z e = record { count = h; known = e; ten = λ k a q kind address low high. z }
 
 -- any work of 45 registers
 pub any-fine : (w : Work) → Whole w → Fine (λ n kind address. Unit {0}) w
-any-fine w h = record { count = h; known = tt; ten = λ k a z kind address p. tt }
+any-fine w h = record { count = h; known = tt; ten = λ k a z kind address low high. tt }
 
 -- not refused with Stop
 abbrev pub Calm : Work → Type 0

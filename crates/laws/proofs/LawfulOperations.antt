@@ -15,7 +15,7 @@ use Rattle.laws.specs.Lists.{listed}
 use Rattle.laws.specs.Stops.{canStop}
 use Rattle.laws.proofs.Calm.{never}
 use Rattle.laws.proofs.Rows.{look-unlisted, Rows, none, _&_, rows-append, look-rows}
-use Rattle.laws.proofs.Lawful.{Law, lawful-attempted, lawful-putBoth, lawful-putCore, lawful-refuse}
+use Rattle.laws.proofs.Lawful.{Law, law, lawful-attempted, lawful-putBoth, lawful-putCore, lawful-refuse}
 use Rattle.laws.proofs.LawfulScheduling.{lawful-endp, lawful-startp, lawful-stopp, lawful-lend, lawful-runp, lawful-stoperr, lawful-j}
 use Rattle.laws.proofs.LawfulData.{lawful-lb, lawful-ret, lawful-sb, lawful-savel, lawful-saveh, lawful-altend, lawful-blockMove, lawful-ldnl, lawful-ldl, lawful-call, lawful-stl, lawful-stnl}
 use Rattle.laws.proofs.LawfulTimers.{lawful-tin, lawful-dist, lawful-enbt, lawful-talt, lawful-taltwt}
@@ -83,24 +83,24 @@ module _ {A : ℕ → Type 0} where
       (λ s. lawful-outword) &
       (λ s. lawful-resetch) &
       (λ s. lawful-stopp) &
-      (λ s w. lawful-putBoth _ w) &
-      (λ s w. lawful-putBoth _ w) &
-      (λ s w. lawful-putBoth _ w) &
+      (λ s. law (λ w. lawful-putBoth _ .at w)) &
+      (λ s. law (λ w. lawful-putBoth _ .at w)) &
+      (λ s. law (λ w. lawful-putBoth _ .at w)) &
       (λ s. lawful-ret) &
       (λ s. lawful-lend) &
-      (λ s w. lawful-putCore _ w) &
+      (λ s. law (λ w. lawful-putCore _ .at w)) &
       (λ s. lawful-tin (s refl)) &
       (λ s. lawful-dist (s refl)) &
       (λ s. lawful-disc) &
       (λ s. lawful-diss) &
-      (λ s w. lawful-attempted _ (s refl) w) &
-      (λ s w. lawful-attempted _ (s refl) w) &
+      (λ s. law (λ w. lawful-attempted _ (s refl) .at w)) &
+      (λ s. law (λ w. lawful-attempted _ (s refl) .at w)) &
       (λ s. lawful-runp) &
       (λ s. lawful-sb) &
       (λ s. lawful-savel) &
       (λ s. lawful-saveh) &
-      (λ s w. lawful-attempted _ (s refl) w) &
-      (λ s w. lawful-attempted _ (s refl) w) &
+      (λ s. law (λ w. lawful-attempted _ (s refl) .at w)) &
+      (λ s. law (λ w. lawful-attempted _ (s refl) .at w)) &
       (λ s. lawful-alt) &
       (λ s. lawful-altwt) &
       (λ s. lawful-altend) &
@@ -109,16 +109,16 @@ module _ {A : ℕ → Type 0} where
       (λ s. lawful-enbs) &
       (λ s. lawful-blockMove) &
       (λ s. lawful-talt) &
-      (λ s w. lawful-putBoth _ w) &
+      (λ s. law (λ w. lawful-putBoth _ .at w)) &
       (λ s. lawful-taltwt (s refl)) &
-      (λ s w. lawful-putBoth _ w) &
+      (λ s. law (λ w. lawful-putBoth _ .at w)) &
       (λ s. lawful-stoperr) &
       none
 
   pub lawful-operate : (code : ℕ) → (canStop code ≡ true → A stop) → (listed code operations ≡ false → A unlisted) → Law A (operate code)
   unfolding operate operations
   lawful-operate code s h =
-      look-rows (Operation A) operations (rows-append (rows-registers registerOperations (λ k g s w. lawful-putCore _ w)) others) code unlistedAction (λ z s. lawful-unlisted (h z)) s
+      look-rows (Operation A) operations (rows-append (rows-registers registerOperations (λ k g s. law (λ w. lawful-putCore _ .at w))) others) code unlistedAction (λ z s. lawful-unlisted (h z)) s
 
   -- ---- functions
 
@@ -126,19 +126,19 @@ module _ {A : ℕ → Type 0} where
   unfolding functions
   all-functions =
       (λ s. lawful-j) &
-      (λ s w. lawful-putCore _ w) &
+      (λ s. law (λ w. lawful-putCore _ .at w)) &
       (λ s. lawful-ldnl) &
-      (λ s w. lawful-putCore _ w) &
-      (λ s w. lawful-putCore _ w) &
+      (λ s. law (λ w. lawful-putCore _ .at w)) &
+      (λ s. law (λ w. lawful-putCore _ .at w)) &
       (λ s. lawful-ldl) &
-      (λ s w. lawful-putCore _ w) &
+      (λ s. law (λ w. lawful-putCore _ .at w)) &
       (λ s. lawful-call) &
-      (λ s w. lawful-putCore _ w) &
-      (λ s w. lawful-putCore _ w) &
-      (λ s w. lawful-putCore _ w) &
+      (λ s. law (λ w. lawful-putCore _ .at w)) &
+      (λ s. law (λ w. lawful-putCore _ .at w)) &
+      (λ s. law (λ w. lawful-putCore _ .at w)) &
       (λ s. lawful-stl) &
       (λ s. lawful-stnl) &
-      (λ s w. lawful-operate (reg oreg w) (λ z. s refl .0) (λ z. s refl .1) w) &
+      (λ s. law (λ w. lawful-operate (reg oreg w) (λ z. s refl .0) (λ z. s refl .1) .at w)) &
       none
 
   pub lawful-function : A stop → A unlisted → (code : ℕ) → Law A (function code)

@@ -10,16 +10,18 @@ use lib.Dec.{eqb}
 use Rattle.rules.specs.Tests.{pick, ifEq}
 use Rattle.rules.specs.Words.{atWord, index, later}
 use Rattle.rules.specs.Registers.{areg, breg, creg, clockReg}
-use Rattle.rules.specs.Work.{Work, reg, wptr, priority, outside, stop, kindLoad, refuseAt, refuse, access, wordAt}
+use Rattle.rules.specs.Work.{untraced, Work, reg, wptr, priority, outside, stop, kindLoad, refuseAt, refuse, access, wordAt}
 use Rattle.rules.specs.Scheduling.{notProcess, timeS, tlinkS}
 use Rattle.rules.specs.Timers.{nextTime, dropB, timedOut, timerStatus, timerWake, timerNext, timerUnlink, timerFront, timerServe, handleTimerRequest, insertWalk, insertFirstStep, deleteWalk, deleteFirstStep, selectFirst, isThisSelectedProcess, tin, talt, timeNow, taltwtTime, taltwtLink, taltwtState, taltwt, enbtFirst, enbtEarlier, enbtLink, enbtGuard, enbt, distReady, distSet, distLink, dist}
 use Rattle.rules.proofs.Tests.{no-eq, cases-eq}
 use Rattle.laws.specs.Alike.{Unrefused, Alike, beyond, refused, same}
 use Rattle.laws.specs.Ring.{insertEnds, deleteEnds}
+use Rattle.laws.specs.Listed.{retrace}
 use Rattle.laws.proofs.Fine.{refused-with}
 use Rattle.laws.proofs.Calm.{any-fine}
+use Rattle.laws.proofs.Listed.{unrefused-plain}
 use Rattle.laws.proofs.TimerRings.{walk-longer, insert-goes, insert-walk, delete-goes, delete-walk}
-use Rattle.laws.proofs.Lawful.{Law, kept, longer, same-word, _then_, unchanged, lawful-eq, lawful-lower, lawful-pick, lawful-put, lawful-read, lawful-rIndexWord, lawful-stop, lawful-wIndexWord}
+use Rattle.laws.proofs.Lawful.{Law, law, kept, longer, same-word, _then_, unchanged, lawful-eq, lawful-lower, lawful-pick, lawful-put, lawful-read, lawful-rIndexWord, lawful-stop, lawful-wIndexWord}
 use Rattle.laws.proofs.LawfulScheduling.{lawful-run, lawful-wait}
 use Rattle.laws.proofs.LawfulTimerQueues.{lawful-setNext, lawful-insertWalk, lawful-deleteWalk}
 
@@ -45,31 +47,34 @@ more-stop w v e = absurd (cases-eq (w .answer) 0 (λ z. omega (arith, ap (λ (u 
 abbrev Only : ℕ → ℕ → ℕ → Type 0
 Only n k a = (n ≡ 0 → ⊥) → (n ≡ outside → ⊥) → n ≡ stop
 
-module _ (walk : ℕ → List ℕ → Work → Work) (law : (A : ℕ → Type 0) → A stop → (turns : ℕ) → Law A (walk turns))
+module _ (walk : ℕ → List ℕ → Work → Work) (walks : (A : ℕ → Type 0) → A stop → (turns : ℕ) → Law A (walk turns))
     -- more turns do the same, unless the walk is refused
     (more : (turns turns′ : ℕ) → turns ≤ turns′ → (mem : List ℕ) (w : Work) → More (walk turns mem w) (walk turns′ mem w))
     -- a walk that Stops does so in a longer memory
     (ring : (m x : List ℕ) (w : Work) → Unrefused (length m) w → walk (length m + 2) m w .answer ≡ stop → walk (length (m ++ x) + 2) (m ++ x) w .answer ≡ stop) where
-  lawful-budget : {A : ℕ → Type 0} → A stop → Law A (λ mem. walk (length mem + 2) mem)
-  lawful-budget {A} s w =
-      record {
-        keeps = λ P t mem f. law A s (length mem + 2) w .keeps P t mem f;
-        alike = λ m x small u. go m x u (law A s (length m + 2) w .alike m x small u);
-      }
-    where
-      only : (mem : List ℕ) {size : ℕ} → Unrefused size w → Only (walk (length mem + 2) mem w .answer) 0 0
-      only mem u =
-          kept {P = Only} (law _ (λ k a z kind address p n o. refl) (length mem + 2)) mem
-          (record { count = u .count; known = λ n o. absurd (n (u .none)); ten = λ k a z kind address p n o. absurd (o refl) }) .known
+  -- the same budget in both memories, then the larger one in the longer memory
+  module _ (w : Work) where
+    only : (mem : List ℕ) {size : ℕ} → Unrefused size w → Only (walk (length mem + 2) mem w .answer) 0 0
+    only mem u =
+        kept {P = Only} (walks _ (λ k a z kind address p n o. refl) (length mem + 2)) mem
+        (record { count = u .count; known = λ n o. absurd (n (u .none)); ten = λ k a z kind address low high n o. absurd (o refl) }) .known
 
-      go : (m x : List ℕ) → Unrefused (length m) w → Alike (length m) (walk (length m + 2) m w) (walk (length m + 2) (m ++ x) w)
-          → Alike (length m) (walk (length m + 2) m w) (walk (length (m ++ x) + 2) (m ++ x) w)
-      go m x u (beyond e c t) = beyond e c t
-      go m x u (refused n o e c c′) =
-          let z = only m u n o in
-          refused n o (z ∙ sym (ring m x w u z)) c (kept (law _ (λ k a z kind address p. tt) (length (m ++ x) + 2)) (m ++ x) (any-fine w (u .count)) .count)
-      go m x u (same e v) =
-          same (e ∙ sym (more (length m + 2) (length (m ++ x) + 2) (omega (arith, length-append m x)) (m ++ x) w (ap (λ (y : Work). y .answer) (sym e) ∙ v .none))) v
+    go : (m x : List ℕ) → Unrefused (length m) w → Alike (length m) (walk (length m + 2) m w) (walk (length m + 2) (m ++ x) w)
+        → Alike (length m) (walk (length m + 2) m w) (walk (length (m ++ x) + 2) (m ++ x) w)
+    go m x u (beyond e c t) = beyond e c t
+    go m x u (refused n o e c c′) =
+        let z = only m u n o in
+        refused n o (z ∙ sym (ring m x w u z)) c (kept (walks _ (λ k a z kind address p. tt) (length (m ++ x) + 2)) (m ++ x) (any-fine w (u .count)) .count)
+    go m x u (same e v) =
+        same (e ∙ sym (more (length m + 2) (length (m ++ x) + 2) (omega (arith, length-append m x)) (m ++ x) w (ap (λ (y : Work). y .answer) (sym e) ∙ v .none))) v
+
+  lawful-budget : {A : ℕ → Type 0} → A stop → Law A (λ mem. walk (length mem + 2) mem)
+  lawful-budget {A} s =
+      law (λ w. record {
+        keeps = λ P t mem f. walks A s (length mem + 2) .at w .keeps P t mem f;
+        alike = λ m x small u. go (retrace untraced w) m x (unrefused-plain w u) (walks A s (length m + 2) .at w .alike m x small u);
+        lists = λ mem c made. walks A s (length mem + 2) .at w .lists mem c made;
+      })
 
 module _ (time previous : ℕ) where
   insert-more : (turns turns′ previous : ℕ) → turns ≤ turns′ → (mem : List ℕ) (w : Work) → More (insertWalk mem turns time previous w) (insertWalk mem turns′ time previous w)
@@ -116,120 +121,120 @@ module _ (previous : ℕ) where
 module _ {A : ℕ → Type 0} where
   pub lawful-nextTime : Law A (λ mem. nextTime)
   unfolding nextTime
-  lawful-nextTime w = lawful-put _ _ w
+  lawful-nextTime = law (λ w. lawful-put _ _ .at w)
 
   pub lawful-dropB : Law A (λ mem. dropB)
   unfolding dropB
-  lawful-dropB w = lawful-put _ _ w
+  lawful-dropB = law (λ w. lawful-put _ _ .at w)
 
   pub lawful-timedOut : (queue front : ℕ) → Law A (λ mem. timedOut mem queue front)
   unfolding timedOut
-  lawful-timedOut queue front w = lawful-wIndexWord _ _ _ w then lawful-run _
+  lawful-timedOut queue front = law (λ w. lawful-wIndexWord _ _ _ .at w then lawful-run _)
 
   pub lawful-timerStatus : A stop → (queue front status : ℕ) → Law A (λ mem. timerStatus mem queue front status)
   unfolding timerStatus
-  lawful-timerStatus s queue front status w = lawful-eq _ _ unchanged (lawful-eq _ _ (lawful-timedOut _ _ w) (lawful-stop s w))
+  lawful-timerStatus s queue front status = law (λ w. lawful-eq _ _ unchanged (lawful-eq _ _ (lawful-timedOut _ _ .at w) (lawful-stop s .at w)))
 
   pub lawful-timerWake : A stop → (queue front : ℕ) → Law A (λ mem. timerWake mem queue front)
   unfolding timerWake
-  lawful-timerWake s queue front w = lawful-read _ (lawful-timerStatus s _ _) w
+  lawful-timerWake s queue front = law (λ w. lawful-read _ (lawful-timerStatus s _ _) .at w)
 
   pub lawful-timerNext : (queue second : ℕ) → Law A (λ mem. timerNext mem queue second)
   unfolding timerNext
-  lawful-timerNext queue second w = lawful-eq _ _ unchanged (lawful-setNext _ _ w)
+  lawful-timerNext queue second = law (λ w. lawful-eq _ _ unchanged (lawful-setNext _ _ .at w))
 
   pub lawful-timerUnlink : (queue front second : ℕ) → Law A (λ mem. timerUnlink mem queue front second)
   unfolding timerUnlink
-  lawful-timerUnlink queue front second w = lawful-wIndexWord _ _ _ w then lawful-wIndexWord _ _ _ then lawful-timerNext _ _
+  lawful-timerUnlink queue front second = law (λ w. lawful-wIndexWord _ _ _ .at w then lawful-wIndexWord _ _ _ then lawful-timerNext _ _)
 
   pub lawful-timerFront : A stop → (queue front : ℕ) → Law A (λ mem. timerFront mem queue front)
   unfolding timerFront
-  lawful-timerFront s queue front w = lawful-read _ (lawful-timerUnlink _ _) w then lawful-timerWake s _ _
+  lawful-timerFront s queue front = law (λ w. lawful-read _ (lawful-timerUnlink _ _) .at w then lawful-timerWake s _ _)
 
   pub lawful-timerServe : A stop → (queue : ℕ) → Law A (λ mem. timerServe mem queue)
   unfolding timerServe
-  lawful-timerServe s queue w = lawful-read _ (lawful-timerFront s _) w
+  lawful-timerServe s queue = law (λ w. lawful-read _ (lawful-timerFront s _) .at w)
 
   pub lawful-handleTimerRequest : A stop → (queue : ℕ) → Law A (λ mem. handleTimerRequest mem queue)
   unfolding handleTimerRequest
-  lawful-handleTimerRequest s queue w = lawful-lower _ _ w then lawful-timerServe s _
+  lawful-handleTimerRequest s queue = law (λ w. lawful-lower _ _ .at w then lawful-timerServe s _)
 
   pub lawful-insertFirstStep : A stop → Law A insertFirstStep
   unfolding insertFirstStep
-  lawful-insertFirstStep s w = lawful-wIndexWord _ _ _ w then lawful-wIndexWord _ _ _ then lawful-insertBudget _ _ s
+  lawful-insertFirstStep s = law (λ w. lawful-wIndexWord _ _ _ .at w then lawful-wIndexWord _ _ _ then lawful-insertBudget _ _ s)
 
   pub lawful-deleteFirstStep : A stop → Law A deleteFirstStep
   unfolding deleteFirstStep
-  lawful-deleteFirstStep s w = lawful-lower _ _ w then lawful-deleteBudget _ s
+  lawful-deleteFirstStep s = law (λ w. lawful-lower _ _ .at w then lawful-deleteBudget _ s)
 
   pub lawful-selectFirst : (status : ℕ) → Law A (λ mem. selectFirst mem status)
   unfolding selectFirst
-  lawful-selectFirst status w = lawful-eq _ _ (lawful-wIndexWord _ _ _ w then lawful-put _ _) (lawful-put _ _ w)
+  lawful-selectFirst status = law (λ w. lawful-eq _ _ (lawful-wIndexWord _ _ _ .at w then lawful-put _ _) (lawful-put _ _ .at w))
 
   pub lawful-isThisSelectedProcess : Law A isThisSelectedProcess
   unfolding isThisSelectedProcess
-  lawful-isThisSelectedProcess w = lawful-read _ lawful-selectFirst w
+  lawful-isThisSelectedProcess = law (λ w. lawful-read _ lawful-selectFirst .at w)
 
   pub lawful-tin : A stop → Law A tin
   unfolding tin
-  lawful-tin s w = lawful-pick (later (reg (clockReg (priority w)) w) (reg areg w)) unchanged (lawful-nextTime w then lawful-insertFirstStep s)
+  lawful-tin s = law (λ w. lawful-pick (later (reg (clockReg (priority w)) w) (reg areg w)) unchanged (lawful-nextTime .at w then lawful-insertFirstStep s))
 
   pub lawful-talt : Law A talt
   unfolding talt
-  lawful-talt w = lawful-wIndexWord _ _ _ w then lawful-wIndexWord _ _ _
+  lawful-talt = law (λ w. lawful-wIndexWord _ _ _ .at w then lawful-wIndexWord _ _ _)
 
   pub lawful-timeNow : Law A timeNow
   unfolding timeNow
-  lawful-timeNow w = lawful-wIndexWord _ _ _ w
+  lawful-timeNow = law (λ w. lawful-wIndexWord _ _ _ .at w)
 
   pub lawful-taltwtTime : A stop → Law A taltwtTime
   unfolding taltwtTime
-  lawful-taltwtTime s w = lawful-pick (later (reg (clockReg (priority w)) w) (reg areg w)) (lawful-wIndexWord _ _ _ w then lawful-timeNow) (lawful-nextTime w then lawful-insertFirstStep s)
+  lawful-taltwtTime s = law (λ w. lawful-pick (later (reg (clockReg (priority w)) w) (reg areg w)) (lawful-wIndexWord _ _ _ .at w then lawful-timeNow) (lawful-nextTime .at w then lawful-insertFirstStep s))
 
   pub lawful-taltwtLink : A stop → Law A taltwtLink
   unfolding taltwtLink
-  lawful-taltwtLink s w = lawful-eq _ _ (lawful-wait w) (lawful-eq _ _ (lawful-rIndexWord _ _ _ w then lawful-taltwtTime s) (lawful-stop s w))
+  lawful-taltwtLink s = law (λ w. lawful-eq _ _ (lawful-wait .at w) (lawful-eq _ _ (lawful-rIndexWord _ _ _ .at w then lawful-taltwtTime s) (lawful-stop s .at w)))
 
   pub lawful-taltwtState : A stop → Law A taltwtState
   unfolding taltwtState
-  lawful-taltwtState s w = lawful-eq _ _ (lawful-timeNow w) (lawful-rIndexWord _ _ _ w then lawful-taltwtLink s)
+  lawful-taltwtState s = law (λ w. lawful-eq _ _ (lawful-timeNow .at w) (lawful-rIndexWord _ _ _ .at w then lawful-taltwtLink s))
 
   pub lawful-taltwt : A stop → Law A taltwt
   unfolding taltwt
-  lawful-taltwt s w = lawful-wIndexWord _ _ _ w then lawful-rIndexWord _ _ _ then lawful-taltwtState s
+  lawful-taltwt s = law (λ w. lawful-wIndexWord _ _ _ .at w then lawful-rIndexWord _ _ _ then lawful-taltwtState s)
 
   pub lawful-enbtFirst : Law A enbtFirst
   unfolding enbtFirst
-  lawful-enbtFirst w = lawful-wIndexWord _ _ _ w then lawful-wIndexWord _ _ _
+  lawful-enbtFirst = law (λ w. lawful-wIndexWord _ _ _ .at w then lawful-wIndexWord _ _ _)
 
   pub lawful-enbtEarlier : (time : ℕ) → Law A (λ mem. enbtEarlier mem time)
   unfolding enbtEarlier
-  lawful-enbtEarlier time w = lawful-pick (later time (reg breg w)) (lawful-wIndexWord _ _ _ w) unchanged
+  lawful-enbtEarlier time = law (λ w. lawful-pick (later time (reg breg w)) (lawful-wIndexWord _ _ _ .at w) unchanged)
 
   pub lawful-enbtLink : A stop → (link : ℕ) → Law A (λ mem. enbtLink mem link)
   unfolding enbtLink
-  lawful-enbtLink s link w = lawful-eq _ _ (lawful-enbtFirst w) (lawful-eq _ _ (lawful-read _ lawful-enbtEarlier w) (lawful-stop s w))
+  lawful-enbtLink s link = law (λ w. lawful-eq _ _ (lawful-enbtFirst .at w) (lawful-eq _ _ (lawful-read _ lawful-enbtEarlier .at w) (lawful-stop s .at w)))
 
   pub lawful-enbtGuard : A stop → Law A enbtGuard
   unfolding enbtGuard
-  lawful-enbtGuard s w = lawful-eq _ _ unchanged (lawful-read _ (lawful-enbtLink s) w)
+  lawful-enbtGuard s = law (λ w. lawful-eq _ _ unchanged (lawful-read _ (lawful-enbtLink s) .at w))
 
   pub lawful-enbt : A stop → Law A enbt
   unfolding enbt
-  lawful-enbt s w = lawful-enbtGuard s w then lawful-dropB
+  lawful-enbt s = law (λ w. lawful-enbtGuard s .at w then lawful-dropB)
 
   pub lawful-distReady : (time : ℕ) → Law A (λ mem. distReady mem time)
   unfolding distReady
-  lawful-distReady time w = lawful-pick (later time (reg creg w)) (lawful-isThisSelectedProcess w) (lawful-put _ _ w)
+  lawful-distReady time = law (λ w. lawful-pick (later time (reg creg w)) (lawful-isThisSelectedProcess .at w) (lawful-put _ _ .at w))
 
   pub lawful-distSet : A stop → (link : ℕ) → Law A (λ mem. distSet mem link)
   unfolding distSet
-  lawful-distSet s link w = lawful-eq _ _ (lawful-read _ lawful-distReady w) (lawful-deleteFirstStep s w then lawful-put _ _)
+  lawful-distSet s link = law (λ w. lawful-eq _ _ (lawful-read _ lawful-distReady .at w) (lawful-deleteFirstStep s .at w then lawful-put _ _))
 
   pub lawful-distLink : A stop → (link : ℕ) → Law A (λ mem. distLink mem link)
   unfolding distLink
-  lawful-distLink s link w = lawful-eq _ _ (lawful-put _ _ w) (lawful-distSet s _ w)
+  lawful-distLink s link = law (λ w. lawful-eq _ _ (lawful-put _ _ .at w) (lawful-distSet s _ .at w))
 
   pub lawful-dist : A stop → Law A dist
   unfolding dist
-  lawful-dist s w = lawful-eq _ _ (lawful-put _ _ w) (lawful-read _ (lawful-distLink s) w)
+  lawful-dist s = law (λ w. lawful-eq _ _ (lawful-put _ _ .at w) (lawful-read _ (lawful-distLink s) .at w))

@@ -14,6 +14,7 @@ pub mod LawfulScheduling
 pub mod LawfulStep
 pub mod LawfulTimerQueues
 pub mod LawfulTimers
+pub mod Listed
 pub mod Pigeon
 pub mod Ring
 pub mod Rows

@@ -6,7 +6,7 @@ use Rattle.rules.specs.Words.{atByte, withNibble}
 use Rattle.rules.specs.Core.{errorFlag, haltOnErrorBit}
 use Rattle.rules.specs.Stack.{pfix, nfix}
 use Rattle.rules.specs.Registers.{iptrReg, oreg, statusReg, flagsReg, idleFlag, haltedFlag, linkChans}
-use Rattle.rules.specs.Work.{Work, reg, put, raise, onCore, halted, idle, refuse, fetchByte}
+use Rattle.rules.specs.Work.{Access, accessesOf, Work, beginTraced, reg, put, raise, onCore, halted, idle, refuse, fetchByte}
 use Rattle.rules.specs.Scheduling.{actOnSNP}
 use Rattle.rules.specs.Timers.{timerReady, handleTimerRequest}
 use Rattle.rules.specs.Channels.{requested, handleChannelRequest}
@@ -61,3 +61,7 @@ module _ (m : List ℕ) where
   -- 6 Halted, then (a), (b) or (c), then halting (01, One step)
   unfoldable pub step : Work → Work
   step w = ifSet haltedFlag (reg flagsReg w) (refuse halted w) (haltOnError (reg statusReg w) (choose w))
+
+  -- the accesses of a step, kind and address, in 000's order; the list ends at a refusal (02, No. 1; DECISIONS 59)
+  unfoldable pub accesses : List ℕ → List Access
+  accesses r = accessesOf (step (beginTraced r) .trace)
