@@ -46,7 +46,7 @@ known-of regs log w e f = subst KnownWork (sym e) (f .known)
 
 pub step-known : (old : List ℕ) → length old ≡ registers → (mem : List ℕ) → KnownWork (steps.step mem (begin old))
 step-known old h mem =
-    fine-step mem (turns-known _ (omega arith)) (turns-known _ (omega arith)) (turns-known _ (omega arith)) (turns-known _ (omega arith)) (fine-begin old h) .known
+    fine-step mem (turns-known _ (omega arith)) (turns-known _ (omega arith)) (turns-known _ (omega arith)) (turns-known _ (omega arith)) (turns-known _ (omega arith)) (fine-begin old h) .known
 
 -- old are the registers before the call
 module _ (old : List ℕ) (h : length old ≡ registers) (regs log : List ℕ) where

@@ -18,6 +18,7 @@ pub answer-of-spec : {M : Type 1} → statement M
 unfolding answerOf ifLt ifEq
 answer-of-spec =
     tie.close (tie.spec
+    (λ c κs. search needs)
     (λ c. rw (c .match .keys1))
     (λ c. rw (c .match .keys2))
     (λ c. rw (c .match .keys3))
@@ -28,7 +29,6 @@ answer-of-spec =
     (λ c. rw (c .match .keys8))
     (λ c. rw (c .match .keys9))
     (λ c. rw (c .match .keys10))
-    (λ c κs. search needs)
     (λ c. rw (c .before .match .keys11) (c .outside-of .ensures))
     (λ c. rw (c .match .keys12))
     returns-13)

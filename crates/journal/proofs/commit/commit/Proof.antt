@@ -12,8 +12,8 @@ use Rattle.journal.proofs.commit.commit.Tie as tie
 
 returns : tie.Need-returns
 returns c =
-    let a = c .before .before .before .before .args in
-    committed-refused (olds (a .mem .now)) (a .used) (a .mem .now) (a .journal .now) (answerOf (a .log .now)) (kindOf (a .log .now)) (addressOf (a .log .now)) (storesOf (a .log .now)) (c .if1 .taken)
+    let a = c .before .before .before .before .before .before .args in
+    committed-refused (olds (a .mem .now)) (a .used) (a .mem .now) (a .journal .now) (answerOf (a .log .now)) (kindOf (a .log .now)) (addressOf (a .log .now)) (storesOf (a .log .now)) (c .before .before .if1 .taken)
 
 is-full-requires : tie.Need-is-full-requires
 is-full-requires c κs =
@@ -42,7 +42,7 @@ returns-3 c =
 pub commit-spec : {M : Type 1} → statement M
 commit-spec =
     tie.close (tie.spec
-    (λ c. search needs)
+    (λ c. search needs) (λ c. search needs) (λ c. search needs)
     returns
     (λ c κs. search needs)
     is-full-requires
