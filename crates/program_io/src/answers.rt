@@ -15,7 +15,7 @@ pub struct Refusal {
 }
 
 // Returns the numbers of an answer that has neither part nor address.
-fn plain(number: u32) -> Refusal
+pub fn plain(number: u32) -> Refusal
     ensures { λ r. ⌜ numbersOf r ≡ (number, 0, 0) ⌝ }
 {
     Refusal {
