@@ -4,6 +4,7 @@
 pub mod assemble;
 pub mod case;
 pub mod compare;
+pub mod edges;
 pub mod explain;
 pub mod generate;
 pub mod history;
