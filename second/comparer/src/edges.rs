@@ -82,7 +82,12 @@ fn place(asked: Asked, response: &Response) -> Option<String> {
         return None;
     };
     let bits = BITS[usize::from(address % 4 != 0)];
-    Some(just_outside(call, &names::label(response.answer), end, bits))
+    Some(just_outside(
+        call,
+        &names::label(response.answer),
+        end,
+        bits,
+    ))
 }
 
 /// How a move leaves memory, by its registers; a refusal has left them.

@@ -65,5 +65,7 @@ fn complaint(refusal: Refusal) -> Option<String> {
         _ => return None,
     };
     let (label, address) = (label(answer_word(refusal)), refusal.address());
-    Some(format!("{label}: {access} outside memory at {address:08X}\n"))
+    Some(format!(
+        "{label}: {access} outside memory at {address:08X}\n"
+    ))
 }

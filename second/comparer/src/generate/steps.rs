@@ -290,7 +290,7 @@ fn block(random: &mut Random, scene: &mut Scene) {
         _ => buffer(random, scene),
     };
     if random.percent(25) {
-        scene.regs[A] = random.between(1, 40);
+        scene.regs[A] = random.between(8, 60);
         for register in random.pick(&[&[B][..], &[B], &[C], &[C], &[B, C]]) {
             scene.regs[*register] = scene.end().wrapping_sub(random.below(30));
         }
