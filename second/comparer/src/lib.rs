@@ -4,12 +4,12 @@
 pub mod assemble;
 pub mod case;
 pub mod compare;
-pub mod edges;
 pub mod explain;
 pub mod generate;
 pub mod history;
 pub mod instructions;
 pub mod names;
+pub mod outside;
 pub mod process;
 pub mod program;
 pub mod protocol;

@@ -3,9 +3,9 @@
 use emulator::registers::*;
 
 use crate::case::{Call, Case, Response};
-use crate::edges::Edges;
 use crate::instructions::{function_code, operation_place, FUNCTIONS, OPERATIONS};
 use crate::names::{answer_place, ANSWERS};
+use crate::outside::Outside;
 
 /// What a case asks an emulator to do.
 #[derive(Clone, Copy, Debug, PartialEq, Eq)]
@@ -92,7 +92,7 @@ const PLACES: usize = ANSWERS.len() + 1;
 /// How often each row met each answer.
 pub struct Table {
     rows: Vec<(String, [u64; PLACES])>,
-    edges: Edges,
+    outside: Outside,
 }
 
 const REQUESTS: usize = 8;
@@ -113,12 +113,12 @@ impl Table {
         let instructions = FUNCTIONS.iter().chain(OPERATIONS.iter());
         names.extend(instructions.map(|instruction| instruction.name.into()));
         let rows = names.into_iter().map(|name| (name, [0; PLACES])).collect();
-        let edges = Edges::default();
-        Table { rows, edges }
+        let outside = Outside::default();
+        Table { rows, outside }
     }
 
     pub fn count(&mut self, asked: Asked, response: &Response) {
-        self.edges.count(asked, response);
+        self.outside.count(asked, response);
         let answer = answer_place(response.answer).unwrap_or(PLACES - 1);
         if !matches!(asked, Asked::Call(_)) {
             self.rows[Call::Step as usize].1[answer] += 1;
@@ -147,7 +147,7 @@ impl Table {
                 );
             }
         }
-        for (name, count) in self.edges.places() {
+        for (name, count) in self.outside.places() {
             text += &format!("\n{name:<58}{count:>7}");
         }
         text
@@ -172,7 +172,7 @@ impl Table {
                 }
             }
         }
-        for (name, count) in self.edges.places() {
+        for (name, count) in self.outside.places() {
             if count < least {
                 short.push(format!("{name}: {count} times only"));
             }

@@ -145,6 +145,9 @@ fn decision_58_the_first_access_of_an_operation() {
         (ENDP, [word(127), 0, 0], OutsideLoad(END)),
         (STARTP, [MIN_INT, 0, 0], OutsideStore(BELOW)),
         (STARTP, [END + 7, 0, 0], OutsideStore(END + 3)),
+        // enbc, disc of a soft channel
+        (0x48, [1, END + 1, 0], OutsideLoad(END + 1)),
+        (0x2F, [0, 1, BELOW + 2], OutsideLoad(BELOW + 2)),
     ] {
         assert_eq!(operation(code, stack), Some(expected), "{code:X}");
     }
@@ -171,6 +174,9 @@ fn decision_58_the_first_access_of_an_operation() {
         (word(3), 0x2E, OutsideLoad(BELOW)),
         // alt, diss
         (word(2), 0x43, OutsideStore(BELOW)),
+        // enbs, enbt
+        (word(131), 0x49, OutsideStore(END)),
+        (word(3), 0x47, OutsideLoad(BELOW)),
         (END, 0x30, OutsideLoad(END)),
     ] {
         let told = in_workspace(wptr, code, [1, 1, 1]);

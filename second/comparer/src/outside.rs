@@ -32,11 +32,11 @@ const NEAR: u32 = 32;
 
 /// How often each place was met.
 #[derive(Default)]
-pub struct Edges {
+pub struct Outside {
     met: BTreeMap<String, u64>,
 }
 
-impl Edges {
+impl Outside {
     pub fn count(&mut self, asked: Asked, response: &Response) {
         if response.answer % 256 != 10 {
             return;
