@@ -81,7 +81,7 @@ fn place(asked: Asked, response: &Response) -> Option<String> {
     } else {
         return None;
     };
-    let bits = BITS[usize::from(address % 4 != 0)];
+    let bits = BITS[usize::from(address & 3 != 0)];
     Some(just_outside(
         call,
         &names::label(response.answer),

@@ -313,7 +313,7 @@ fn spots(random: &mut Random, size: usize) -> Vec<u32> {
         let index = match random.below(20) {
             0..=11 => random.between(24, words - 6),
             12..=14 => random.between(5, 23),
-            15 => words.wrapping_add(random.below(6)).wrapping_sub(4),
+            15 => words.wrapping_add(random.below(10)).wrapping_sub(4),
             16 => random.below(6),
             _ => match spots.last() {
                 Some(last) => ((last - MIN_INT) / 4).wrapping_add(random.below(5)),
