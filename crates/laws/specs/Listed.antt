@@ -2,7 +2,7 @@
 use mathlib.Core.Path.{_≡_}
 use mathlib.Core.List.{List, [], _∷_, _++_}
 use Prim.Native.Nat.{ℕ, _≤_, _<_}
-use lib.ListN.{length}
+use Rattle.rules.specs.Tests.{ifEq}
 use Rattle.rules.specs.Words.{index}
 use Rattle.rules.specs.Work.{Access, Trace, traced, Work, outside}
 
@@ -15,6 +15,10 @@ retrace t w =
 abbrev pub AllInside : ℕ → List Access → Type 0
 AllInside size [] = Unit {0}
 AllInside size (x ∷ xs) = (index (x .1) < size) × AllInside size xs
+
+-- the access outside memory that refused a work; kind 0 where there is none (01, Answers by number; 02, No. 1)
+abbrev pub outsideOf : Work → Access
+outsideOf w = ifEq (w .answer) outside (w .kind, w .address) (0, 0)
 
 -- what a list of accesses says of the answer: all are inside memory, and the answer is not 10; or the answer is 10 for the last of them, which is
 -- outside memory, and those before are inside (01, Answers by number; 02, No. 1)

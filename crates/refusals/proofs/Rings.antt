@@ -7,18 +7,20 @@ use mathlib.Core.List.{List}
 use Prim.Native.Nat.{ℕ, _≤_, _<_}
 use native.Mathlib.Omega.{arith}
 use borrow.Author.Tests.{lt-ltb, lt-leb, eq-eqb, ne-eqb, eqb-true, ltb-true, ltb-false}
-use lib.Dec.{ltb}
+use lib.Bits.{bitAnd}
+use lib.Dec.{ltb, eqb}
 use lib.ListN.{length, getD}
 use Rattle.rules.specs.Tests.{pick, look}
 use Rattle.rules.specs.Words.{index, later}
-use Rattle.rules.specs.Registers.{registers, areg, breg, creg, clockReg}
-use Rattle.rules.specs.Work.{Work, begin, reg, priority, wordAt}
+use Rattle.rules.specs.Registers.{registers, iptrReg, flagsReg, haltedFlag, areg, breg, creg, clockReg}
+use Rattle.rules.specs.Work.{Access, Work, begin, reg, priority, wordAt}
 use Rattle.rules.specs.Scheduling.{ready, timeNotSet, timeSet}
 use Rattle.rules.specs.Timers.{tptrLoc, nextTime}
 use Rattle.rules.specs.Step as steps
 use Rattle.rules.specs.Calls as rules
 use Rattle.rules.specs.declared.Machine.{Machine}
-use Rattle.rules.proofs.Tests.{yes}
+use Rattle.rules.proofs.Tests.{yes, no-eq, cases-eq}
+use Rattle.laws.specs.Alike.{Whole}
 use Rattle.laws.specs.Ring.{isOutside, insertRings}
 use Rattle.laws.specs.Stops.{going, insertStarted, insertStops, deleteStarted, deleteStops, InsertsInRing, DeletesInRing, TinRing, DistRing, tinStops, distStops, stateLoaded, linkLoaded, timeLoaded, markStops, taltwtStops, stopPlaces, nowhere}
 use Rattle.laws.proofs.Lawful.{kept, lawful-rIndexWord, lawful-wIndexWord}
@@ -26,9 +28,9 @@ use Rattle.laws.proofs.LawfulTimers.{lawful-nextTime}
 use Rattle.laws.proofs.Calm.{never, and-false, any-fine}
 use Rattle.laws.proofs.TimerRings.{insert-rings, delete-rings}
 use Rattle.laws.proofs.Steps.{queue-inside, started-count, off-count, off-answer}
-use Rattle.refusals.specs.Conditions.{firstOf, badJournal, isHalted, isIdle, isUnlisted, fetches, operates, nextCode, operationStops, stepOutside, stops, full, stepPairs}
-use Rattle.refusals.proofs.Own.{own-nine, own-eleven}
-use Rattle.refusals.proofs.Exactly.{step-exactly}
+use Rattle.refusals.specs.Conditions.{Refusal, refusalOf, firstOf, badJournal, isHalted, isIdle, isUnlisted, fetches, operates, nextCode, operationStops, fetchOutside, stepOutside, stops, full, stepPairs}
+use Rattle.refusals.proofs.Own.{own-nine, own-eleven, own-fetch, own-proper}
+use Rattle.refusals.proofs.Exactly.{not-halted, step-exactly}
 
 -- both of two tests
 both : (a b : Bool) → ((a && b) ≡ true) ↔ ((a ≡ true) × (b ≡ true))
@@ -103,21 +105,45 @@ marked mem w n t =
 
 -- ---- where `stops` holds, it comes first
 
-module _ (r mem : List ℕ) (h : length r ≡ registers) (busy : isIdle r ≡ false) where
-  pub stops-first : stops r mem ≡ true → (isUnlisted r mem ≡ false) × (stepOutside r mem ≡ false)
+module _ (r mem : List ℕ) (h : length r ≡ registers) (runs : isHalted r ≡ false) (busy : isIdle r ≡ false) where
+  awake : bitAnd (getD r flagsReg 0) haltedFlag ≡ 0
+  awake = cases-eq (bitAnd (getD r flagsReg 0) haltedFlag) 0 (λ e. e) (λ e. never (sym runs ∙ rw (no-eq e)))
+
+  pub stops-first : stops r mem ≡ true → (isUnlisted r mem ≡ false) × (fetchOutside r mem ≡ false) × (stepOutside r mem ≡ (0, 0))
   stops-first s =
-      let e : steps.choose mem (begin r) .answer ≡ 11 = eqb-true (steps.choose mem (begin r) .answer) 11 (sym (own-eleven r mem h busy) ∙ s) in
-      (own-nine r mem h busy ∙ ne-eqb (steps.choose mem (begin r) .answer) 9 (λ q. omega (arith, e, q)), ne-eqb (steps.choose mem (begin r) .answer) 10 (λ q. omega (arith, e, q)))
+      let w = steps.choose mem (begin r) in
+      let e : w .answer ≡ 11 = eqb-true (w .answer) 11 (sym (own-eleven r mem h busy) ∙ s) in
+      (
+      own-nine r mem h busy ∙ ne-eqb (w .answer) 9 (λ q. omega (arith, e, q)),
+      own-fetch r mem h busy .0 ∙ ne-eqb (w .kind) 1 (λ q. omega (arith, q, own-proper r mem h .proper .bare (λ z. omega (arith, e, z)) .0)),
+      not-halted r mem h awake ∙ no-eq {a = w .answer} {b = 10} (λ q. omega (arith, e, q)) (w .kind, w .address) (0, 0),
+      )
 
 ltb-iff : (n k : ℕ) → (ltb n k ≡ true) ↔ (n < k)
 ltb-iff n k = ((λ e. ltb-true n k e), λ e. lt-ltb n k e)
 
-eleven : (u o s f : Bool) → _≡_ {A = ℕ} (pick u 9 (pick o 10 (pick s 11 (pick f 12 0)))) 11 → s ≡ true
-eleven true o s f e = absurd (omega (arith, e))
-eleven false true s f e = absurd (omega (arith, e))
-eleven false false true f e = refl
-eleven false false false true e = absurd (omega (arith, e))
-eleven false false false false e = absurd (omega (arith, e))
+-- the rows after 7, by their conditions
+abbrev numbers : Bool → Bool → Bool → Bool → Bool → Bool → ℕ
+numbers u f l s p q = pick u 9 (pick f 10 (pick l 10 (pick s 10 (pick p 11 (pick q 12 0)))))
+
+eleven : (u f l s p q : Bool) → numbers u f l s p q ≡ 11 → p ≡ true
+eleven true f l s p q e = absurd (omega (arith, e))
+eleven false true l s p q e = absurd (omega (arith, e))
+eleven false false true s p q e = absurd (omega (arith, e))
+eleven false false false true p q e = absurd (omega (arith, e))
+eleven false false false false true q e = refl
+eleven false false false false false true e = absurd (omega (arith, e))
+eleven false false false false false false e = absurd (omega (arith, e))
+
+numbered-rows : (u f l s p q : Bool) (i o : ℕ)
+    → pick {A = Refusal} u (9, 0, 0) (pick f (10, 1, i) (pick l (10, 2, o) (pick s (10, 3, o) (pick p (11, 0, 0) (pick q (12, 0, 0) (0, 0, 0)))))) .0 ≡ numbers u f l s p q
+numbered-rows true f l s p q i o = refl
+numbered-rows false true l s p q i o = refl
+numbered-rows false false true s p q i o = refl
+numbered-rows false false false true p q i o = refl
+numbered-rows false false false false true q i o = refl
+numbered-rows false false false false false true i o = refl
+numbered-rows false false false false false false i o = refl
 
 module _ (m : Machine) (mem j : List ℕ) (h : length (m .regs) ≡ registers) (sized : rules.sizeBad mem j ≡ false) (framed : badJournal m j ≡ false)
     (runs : isHalted (m .regs) ≡ false) (busy : isIdle (m .regs) ≡ false) where
@@ -131,12 +157,21 @@ module _ (m : Machine) (mem j : List ℕ) (h : length (m .regs) ≡ registers) (
   pub step-stops : (rules.step m mem j .answer ≡ 11) ↔ (stops r mem ≡ true)
   unfolding firstOf
   step-stops = (
-    (λ e. eleven (isUnlisted r mem) (stepOutside r mem) (stops r mem) (full (stepPairs r mem) m j) (sym first ∙ e)),
-    λ s. let q = stops-first r mem h busy s in first ∙ rw (q .0, q .1, s),
+    (λ e. eleven (isUnlisted r mem) (fetchOutside r mem) (eqb (o .0) 2) (eqb (o .0) 3) (stops r mem) (full (stepPairs r mem) m j) (sym first ∙ e)),
+    λ s. let q = stops-first r mem h runs busy s in first ∙ rw (q .0, q .1, q .2, s),
   )
     where
-      first : rules.step m mem j .answer ≡ pick (isUnlisted r mem) 9 (pick (stepOutside r mem) 10 (pick (stops r mem) 11 (pick (full (stepPairs r mem) m j) 12 0)))
-      first = step-exactly m mem j h ∙ rw (sized, framed, runs, busy)
+      o : Access
+      o = stepOutside r mem
+
+      rows : refusalOf (rules.step m mem j)
+          ≡ pick (isUnlisted r mem) (9, 0, 0) (pick (fetchOutside r mem) (10, 1, getD r iptrReg 0) (pick (eqb (o .0) 2) (10, 2, o .1) (pick (eqb (o .0) 3) (10, 3, o .1) (pick (stops r mem) (11, 0, 0) (pick (full (stepPairs r mem) m j) (12, 0, 0) (0, 0, 0))))))
+      rows = step-exactly m mem j h ∙ rw (sized, framed, runs, busy)
+
+      first : rules.step m mem j .answer ≡ numbers (isUnlisted r mem) (fetchOutside r mem) (eqb (o .0) 2) (eqb (o .0) 3) (stops r mem) (full (stepPairs r mem) m j)
+      first =
+          ap (λ (t : Refusal). t .0) rows
+          ∙ numbered-rows (isUnlisted r mem) (fetchOutside r mem) (eqb (o .0) 2) (eqb (o .0) 3) (stops r mem) (full (stepPairs r mem) m j) _ _
 
   large : 64 ≤ length mem
   unfolding rules.sizeBad rules.memorySizeBad
@@ -169,15 +204,15 @@ module _ (m : Machine) (mem j : List ℕ) (h : length (m .regs) ≡ registers) (
 
     -- THE RINGS, of a call
     pub tin-ring : nextCode r mem ≡ 0x2B → (rules.step m mem j .answer ≡ 11) ↔ TinRing mem start
-    tin-ring c = iff-trans step-stops (iff-same _ _ (at-place 0x2B c) (tin-iff mem large start h))
+    tin-ring c = iff-trans step-stops (iff-same _ _ (at-place 0x2B c) (tin-iff mem large start (h, refl)))
 
     pub dist-ring : nextCode r mem ≡ 0x2E → (rules.step m mem j .answer ≡ 11) ↔ DistRing mem start
-    dist-ring c = iff-trans step-stops (iff-same _ _ (at-place 0x2E c) (dist-iff mem large start h refl))
+    dist-ring c = iff-trans step-stops (iff-same _ _ (at-place 0x2E c) (dist-iff mem large start (h, refl) refl))
 
     -- taltwt, where its state is not Ready.p and its TLink word is TimeSet.p: as tin does, with the time loaded into Areg
     pub taltwt-ring : nextCode r mem ≡ 0x51 → (reg creg (stateLoaded mem start) ≡ ready → ⊥) → reg breg (linkLoaded mem (stateLoaded mem start)) ≡ timeSet
         → (rules.step m mem j .answer ≡ 11) ↔ TinRing mem (timeLoaded mem (linkLoaded mem (stateLoaded mem start)))
     taltwt-ring c n t = iff-trans step-stops (iff-same _ _ (at-place 0x51 c ∙ marked mem start n t) (tin-iff mem large (timeLoaded mem (linkLoaded mem (stateLoaded mem start))) loaded))
       where
-        loaded : length (timeLoaded mem (linkLoaded mem (stateLoaded mem start)) .regs) ≡ registers
-        loaded = kept (lawful-rIndexWord _ _ _) mem (kept (lawful-rIndexWord _ _ _) mem (kept (lawful-rIndexWord _ _ _) mem (kept (lawful-wIndexWord _ _ _) mem (any-fine start h)))) .count
+        loaded : Whole (timeLoaded mem (linkLoaded mem (stateLoaded mem start)))
+        loaded = kept (lawful-rIndexWord _ _ _) mem (kept (lawful-rIndexWord _ _ _) mem (kept (lawful-rIndexWord _ _ _) mem (kept (lawful-wIndexWord _ _ _) mem (any-fine start (h, refl))))) .count

@@ -61,7 +61,7 @@ hold-stored c byte r = on-eq None _ _ refl refl
 
 append-stored : (s : Store) (m : List ℕ) (kind a : ℕ) (r : List ℕ) → index a < length m → append s (access m kind a (begin r)) .stored ≡ s ∷ []
 unfolding append
-append-stored s m kind a r b = rw (inside-same m kind a (begin r) b, yes-eq {a = 0} {b = 0} refl)
+append-stored s m kind a r b = rw (inside-same m kind a (begin r) refl b, yes-eq {a = 0} {b = 0} refl)
 
 -- give: the byte's word, where it is inside memory
 pub give-pairs : (mem : List ℕ) (c byte : ℕ) (r : List ℕ) → (isMoving c r ≡ true → index (getD r (pointerReg c) 0) < length mem)

@@ -1,5 +1,5 @@
--- The table of 01, "Answers by number": each number's condition as a definition of its own, and for each call its numbers in the table's order.
--- A call answers with the first number whose condition holds, and 0 where none does (proofs/Exactly.antt).
+-- The table of 01, "Answers by number", with the parts of 10 that 02 adds: each refusal's condition as a definition of its own, and for each call its
+-- refusals in the table's order. A call answers with the first refusal whose condition holds, and 0 where none does (proofs/Exactly.antt).
 use Prim.Native.Nat.{ℕ, _+_, _/_, _^_}
 use mathlib.Core.Bool.{Bool, true, false, _&&_, _||_, not}
 use mathlib.Core.List.{List, [], _∷_}
@@ -9,18 +9,39 @@ use Rattle.rules.specs.Tests.{pick, ifLt, ifEq, ifSet, look}
 use Rattle.rules.specs.Registers.{iptrReg, oreg, flagsReg, pointerReg, countReg, channelReg, haltedFlag, idleFlag, activeBit, heldBit, linkChans, eventChannel}
 use Rattle.rules.specs.Words.{index, withNibble}
 use Rattle.rules.specs.Memory.{touched}
-use Rattle.rules.specs.Work.{begin, byteAt}
+use Rattle.rules.specs.Work.{Access, begin, byteAt, outside, kindFetch, kindLoad, kindStore, firstOutside}
 use Rattle.rules.specs.Timers.{timerReady}
 use Rattle.rules.specs.Channels.{requested}
 use Rattle.rules.specs.Journal.{recordLength, boundsBad, lastPairs, lastStart, pairsAt, strays}
 use Rattle.rules.specs.Step as steps
-use Rattle.rules.specs.Calls.{sizeBad, codeBad, notOutput, notInput}
+use Rattle.rules.specs.Calls.{Outcome, sizeBad, codeBad, notOutput, notInput}
 use Rattle.rules.specs.declared.Machine.{Machine}
 use Rattle.laws.specs.Stops.{stopPlaces, nowhere, requestStops, timerStops}
 
--- the first number whose condition holds, 0 where none does (01, Answers by number: checks run in the order of the table)
-unfoldable pub firstOf : List (ℕ × Bool) → ℕ
-firstOf [] = 0
+-- what refuses a call: 01's number, the part of 10, and the address of its access; three zeros where nothing does
+-- (01, Answers by number; 02, No. 1)
+abbrev pub Refusal : Type 0
+Refusal = ℕ × ℕ × ℕ
+
+-- the refusal of an outcome (01, Answers by number; 02, No. 1)
+abbrev pub refusalOf : Outcome → Refusal
+refusalOf o = (o .answer, o .part, o .address)
+
+-- a row of the table: a refusal and its condition (01, Answers by number)
+abbrev pub Row : Type 0
+Row = Refusal × Bool
+
+-- the row of a number without an access (01, Answers by number)
+abbrev pub row : ℕ → Bool → Row
+row n condition = ((n, 0, 0), condition)
+
+-- the row of 10 for an access: 10a for a fetch, 10b for a load, 10c for a store (02, No. 1)
+abbrev pub rowOutside : ℕ → ℕ → Bool → Row
+rowOutside kind a condition = ((outside, kind, a), condition)
+
+-- the first refusal whose condition holds, three zeros where none does (01, Answers by number: checks run in the order of the table)
+unfoldable pub firstOf : List Row → Refusal
+firstOf [] = (0, 0, 0)
 firstOf (e ∷ es) = pick (e .1) (e .0) (firstOf es)
 
 -- 4 JournalBad, in every call but fresh and clear: used above the journal's length, or 46 x depth above used (01, Answers by number)
@@ -105,18 +126,17 @@ nextCode r mem = withNibble (nextByte r mem) (getD r oreg 0)
 unfoldable pub isUnlisted : List ℕ → List ℕ → Bool
 isUnlisted r mem = operates r mem && not (isBuilt (nextCode r mem))
 
--- 10 Outside, of take and give: the byte at the pointer of a moving link (01, Answers by number; DECISIONS 32)
+-- 10b of take and 10c of give: the byte at the pointer of a moving link (01, Answers by number; 02, No. 1; DECISIONS 32)
 abbrev pub pointerOutside : ℕ → List ℕ → List ℕ → Bool
 pointerOutside c r mem = isMoving c r && leb (length mem) (index (getD r (pointerReg c) 0))
 
--- the answer of the work of a step that is not halted: (a), (b) or (c) makes its accesses in 000's order; the first access outside memory
--- makes it 10, the first Stop makes it 11 (01, Answers by number; DECISIONS 25, 44)
-abbrev pub ownAnswer : List ℕ → List ℕ → ℕ
-ownAnswer r mem = steps.choose mem (begin r) .answer
+-- 10a: (c) applies, and Iptr is outside memory (02, No. 1)
+abbrev pub fetchOutside : List ℕ → List ℕ → Bool
+fetchOutside r mem = fetches r && leb (length mem) (index (getD r iptrReg 0))
 
--- 10 Outside, of step: its work ends with 10, for a fetch, load or store outside memory (01, Answers by number; DECISIONS 25, 57)
-abbrev pub stepOutside : List ℕ → List ℕ → Bool
-stepOutside r mem = eqb (ownAnswer r mem) 10
+-- the first of a step's accesses that is outside memory, its kind and address; kind 0 where there is none (02, No. 1; DECISIONS 57)
+abbrev pub stepOutside : List ℕ → List ℕ → Access
+stepOutside r mem = firstOutside mem (steps.accesses mem r)
 
 -- (c) Stops: the byte makes an operation that Stops at its place (01, Answers by number; DECISIONS 26)
 unfoldable pub operationStops : List ℕ → List ℕ → Bool
@@ -144,65 +164,67 @@ givePairs c r = pick (isMoving c r) 1 0
 abbrev pub stepPairs : List ℕ → List ℕ → ℕ
 stepPairs r mem = length (touched (length mem) (steps.step mem (begin r) .stored))
 
--- ---- each call's numbers with their conditions, in the table's order
+-- ---- each call's refusals with their conditions, in the table's order
 
 -- fresh: 1 Size, 2 CodeSize (01, Answers by number)
-abbrev pub freshNumbers : List ℕ → List ℕ → List ℕ → List (ℕ × Bool)
-freshNumbers code mem j = (1, sizeBad mem j) ∷ (2, codeBad (length mem) (length code)) ∷ []
+abbrev pub freshRefusals : List ℕ → List ℕ → List ℕ → List Row
+freshRefusals code mem j = row 1 (sizeBad mem j) ∷ row 2 (codeBad (length mem) (length code)) ∷ []
 
 module _ (m : Machine) (mem j : List ℕ) where
   -- clear can meet only 1 (01, Answers by number)
-  abbrev pub clearNumbers : List (ℕ × Bool)
-  clearNumbers = (1, sizeBad mem j) ∷ []
+  abbrev pub clearRefusals : List Row
+  clearRefusals = row 1 (sizeBad mem j) ∷ []
 
   -- tick: 1, 4, 12 (01, Answers by number; DECISIONS 37)
-  abbrev pub tickNumbers : List (ℕ × Bool)
-  tickNumbers = (1, sizeBad mem j) ∷ (4, badJournal m j) ∷ (12, full 0 m j) ∷ []
+  abbrev pub tickRefusals : List Row
+  tickRefusals = row 1 (sizeBad mem j) ∷ row 4 (badJournal m j) ∷ row 12 (full 0 m j) ∷ []
 
   -- event: 1, 4, 8, 12 (01, Answers by number; DECISIONS 37)
-  abbrev pub eventNumbers : List (ℕ × Bool)
-  eventNumbers =
-      (1, sizeBad mem j)
-      ∷ (4, badJournal m j)
-      ∷ (8, giveNotReady eventChannel (m .regs))
-      ∷ (12, full 0 m j)
+  abbrev pub eventRefusals : List Row
+  eventRefusals =
+      row 1 (sizeBad mem j)
+      ∷ row 4 (badJournal m j)
+      ∷ row 8 (giveNotReady eventChannel (m .regs))
+      ∷ row 12 (full 0 m j)
       ∷ []
 
   -- undo: 1, 4, 5 (01, Answers by number; DECISIONS 35)
-  abbrev pub undoNumbers : List (ℕ × Bool)
-  undoNumbers = (1, sizeBad mem j) ∷ (4, undoBad m mem j) ∷ (5, nothingToUndo m) ∷ []
+  abbrev pub undoRefusals : List Row
+  undoRefusals = row 1 (sizeBad mem j) ∷ row 4 (undoBad m mem j) ∷ row 5 (nothingToUndo m) ∷ []
 
-  -- step: 1, 4, 6, 7, 9, 10, 11, 12; of 10 and 11 the first in 000's order (01, Answers by number; DECISIONS 25)
-  abbrev pub stepNumbers : List (ℕ × Bool)
-  stepNumbers =
-      (1, sizeBad mem j)
-      ∷ (4, badJournal m j)
-      ∷ (6, isHalted (m .regs))
-      ∷ (7, isIdle (m .regs))
-      ∷ (9, isUnlisted (m .regs) mem)
-      ∷ (10, stepOutside (m .regs) mem)
-      ∷ (11, stops (m .regs) mem)
-      ∷ (12, full (stepPairs (m .regs) mem) m j)
+  -- step: 1, 4, 6, 7, 9, 10a, 10b, 10c, 11, 12; of 10 and 11 the first in 000's order (01, Answers by number; 02, No. 1; DECISIONS 25)
+  abbrev pub stepRefusals : List Row
+  stepRefusals =
+      row 1 (sizeBad mem j)
+      ∷ row 4 (badJournal m j)
+      ∷ row 6 (isHalted (m .regs))
+      ∷ row 7 (isIdle (m .regs))
+      ∷ row 9 (isUnlisted (m .regs) mem)
+      ∷ rowOutside kindFetch (getD (m .regs) iptrReg 0) (fetchOutside (m .regs) mem)
+      ∷ rowOutside kindLoad (stepOutside (m .regs) mem .1) (eqb (stepOutside (m .regs) mem .0) kindLoad)
+      ∷ rowOutside kindStore (stepOutside (m .regs) mem .1) (eqb (stepOutside (m .regs) mem .0) kindStore)
+      ∷ row 11 (stops (m .regs) mem)
+      ∷ row 12 (full (stepPairs (m .regs) mem) m j)
       ∷ []
 
--- take: 1, 3, 4, 8, 10, 12 (01, Answers by number; DECISIONS 32)
-abbrev pub takeNumbers : ℕ → Machine → List ℕ → List ℕ → List (ℕ × Bool)
-takeNumbers c m mem j =
-    (1, sizeBad mem j)
-    ∷ (3, notOutput c)
-    ∷ (4, badJournal m j)
-    ∷ (8, takeNotReady c (m .regs))
-    ∷ (10, pointerOutside c (m .regs) mem)
-    ∷ (12, full 0 m j)
+-- take: 1, 3, 4, 8, 10b, 12 (01, Answers by number; 02, No. 1; DECISIONS 32)
+abbrev pub takeRefusals : ℕ → Machine → List ℕ → List ℕ → List Row
+takeRefusals c m mem j =
+    row 1 (sizeBad mem j)
+    ∷ row 3 (notOutput c)
+    ∷ row 4 (badJournal m j)
+    ∷ row 8 (takeNotReady c (m .regs))
+    ∷ rowOutside kindLoad (getD (m .regs) (pointerReg c) 0) (pointerOutside c (m .regs) mem)
+    ∷ row 12 (full 0 m j)
     ∷ []
 
--- give: 1, 3, 4, 8, 10, 12 (01, Answers by number; DECISIONS 32)
-abbrev pub giveNumbers : ℕ → Machine → List ℕ → List ℕ → List (ℕ × Bool)
-giveNumbers c m mem j =
-    (1, sizeBad mem j)
-    ∷ (3, notInput c)
-    ∷ (4, badJournal m j)
-    ∷ (8, giveNotReady c (m .regs))
-    ∷ (10, pointerOutside c (m .regs) mem)
-    ∷ (12, full (givePairs c (m .regs)) m j)
+-- give: 1, 3, 4, 8, 10c, 12 (01, Answers by number; 02, No. 1; DECISIONS 32)
+abbrev pub giveRefusals : ℕ → Machine → List ℕ → List ℕ → List Row
+giveRefusals c m mem j =
+    row 1 (sizeBad mem j)
+    ∷ row 3 (notInput c)
+    ∷ row 4 (badJournal m j)
+    ∷ row 8 (giveNotReady c (m .regs))
+    ∷ rowOutside kindStore (getD (m .regs) (pointerReg c) 0) (pointerOutside c (m .regs) mem)
+    ∷ row 12 (full (givePairs c (m .regs)) m j)
     ∷ []

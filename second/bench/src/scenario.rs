@@ -183,7 +183,8 @@ fn ticks() -> Scenario {
     scenario
 }
 
-/// Cases that end with a refusal: of fresh, of a step, a tick and an undo.
+/// Cases that end with a refusal: of fresh, of a step, a tick and an undo; last a fetch, a load and
+/// a store outside memory.
 pub fn refused() -> Vec<Case> {
     let Scenario { counts, code, .. } = arithmetic();
     let counts = Counts {
@@ -207,5 +208,18 @@ pub fn refused() -> Vec<Case> {
     small.memory.truncate(63);
     let mut cases = vec![case(counts, &[]), small];
     cases.extend([full, undone, ticked].map(|counts| case(counts, &code)));
+    cases.extend(outside().map(|code| case(counts, &code.done())));
     cases
+}
+
+fn outside() -> [Code; 3] {
+    let [mut fetch, mut load, mut store] = [(); 3].map(|()| Code::new());
+    fetch.function("j", -256);
+    load.operation("mint").function("adc", -1).operation("lb");
+    store
+        .operation("mint")
+        .function("ldnlp", WORDS as i32)
+        .function("adc", 2)
+        .function("stnl", 0);
+    [fetch, load, store]
 }

@@ -82,6 +82,7 @@ fn one_by_one(case: &Case) -> Response {
     let mut left = Response {
         answer: 0,
         byte: 0,
+        address: 0,
         machine: case.machine.clone(),
         memory: case.memory.clone(),
         journal: case.journal.clone(),
@@ -108,6 +109,20 @@ fn repeat_is_its_calls_one_by_one() {
 
 #[test]
 fn what_is_refused_ends_it() {
-    let answers = refused().into_iter().map(|case| response(case).answer);
-    assert_eq!(answers.collect::<Vec<_>>(), [2, 1, 12, 5, 12]);
+    let answers = refused().into_iter().map(|case| {
+        let response = response(case);
+        (response.answer, response.address)
+    });
+    let outside = |part: u32, address: u32| (10 + 256 * part, address);
+    let expected = [
+        (2, 0),
+        (1, 0),
+        (12, 0),
+        (5, 0),
+        (12, 0),
+        outside(1, 0x7FFF_FF4A),
+        outside(2, 0x7FFF_FFFF),
+        outside(3, 0x8000_1002),
+    ];
+    assert_eq!(answers.collect::<Vec<_>>(), expected);
 }

@@ -72,8 +72,11 @@ impl Case {
 
 #[derive(Clone, Debug, PartialEq, Eq)]
 pub struct Response {
+    /// The answer's number plus 256 x its part; 0 accepted.
     pub answer: u32,
     pub byte: u32,
+    /// The address of an access outside memory, else 0.
+    pub address: u32,
     pub machine: Machine,
     pub memory: Vec<u32>,
     pub journal: Vec<u32>,

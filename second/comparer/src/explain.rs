@@ -23,6 +23,10 @@ pub fn explain(case: &Case, a: &Response, b: &Response) -> String {
         lines.push(format!("  answer: {a} against {b}"));
     }
     differ(&mut lines, "byte", a.byte, b.byte);
+    if a.address != b.address {
+        let (a, b) = (a.address, b.address);
+        lines.push(format!("  address outside: {a:08X} against {b:08X}"));
+    }
     differ(&mut lines, "depth", a.machine.depth, b.machine.depth);
     differ(&mut lines, "used", a.machine.used, b.machine.used);
     words(

@@ -9,6 +9,7 @@ pub mod generate;
 pub mod history;
 pub mod instructions;
 pub mod names;
+pub mod outside;
 pub mod process;
 pub mod program;
 pub mod protocol;

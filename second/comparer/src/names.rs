@@ -2,26 +2,39 @@
 
 use emulator::registers::{pointer_of, LINK_CHANS, REGISTERS};
 
-const ANSWERS: [&str; 13] = [
-    "accepted",
-    "Size",
-    "CodeSize",
-    "BadChannel",
-    "JournalBad",
-    "NothingToUndo",
-    "Halted",
-    "Idle",
-    "NotReady",
-    "Unlisted",
-    "Outside",
-    "Stop",
-    "JournalFull",
+/// Every answer of the documents: the word of a response, how the program writes it, its name.
+pub const ANSWERS: [(u32, &str, &str); 15] = [
+    (0, "0", "accepted"),
+    (1, "1", "Size"),
+    (2, "2", "CodeSize"),
+    (3, "3", "BadChannel"),
+    (4, "4", "JournalBad"),
+    (5, "5", "NothingToUndo"),
+    (6, "6", "Halted"),
+    (7, "7", "Idle"),
+    (8, "8", "NotReady"),
+    (9, "9", "Unlisted"),
+    (10 + 256, "10a", "OutsideFetch"),
+    (10 + 2 * 256, "10b", "OutsideLoad"),
+    (10 + 3 * 256, "10c", "OutsideStore"),
+    (11, "11", "Stop"),
+    (12, "12", "JournalFull"),
 ];
 
-pub fn answer(number: u32) -> String {
-    match ANSWERS.get(number as usize) {
-        Some(name) => format!("{number} {name}"),
-        None => format!("{number} (no answer of document 01)"),
+/// The place of an answer word in `ANSWERS`.
+pub fn answer_place(word: u32) -> Option<usize> {
+    ANSWERS.iter().position(|answer| answer.0 == word)
+}
+
+/// An answer word as the program writes it.
+pub fn label(word: u32) -> String {
+    answer_place(word).map_or(word.to_string(), |place| ANSWERS[place].1.into())
+}
+
+pub fn answer(word: u32) -> String {
+    match answer_place(word) {
+        Some(place) => format!("{} {}", ANSWERS[place].1, ANSWERS[place].2),
+        None => format!("{word} (no answer of the documents)"),
     }
 }
 

@@ -19,6 +19,7 @@ pub struct Program {
 
 pub struct Outcome {
     pub output: Vec<u8>,
+    /// Standard error.
     pub complaint: String,
     pub status: ExitStatus,
 }
@@ -95,7 +96,7 @@ impl Program {
         let output = output.map_err(|_| format!("{name}: no end within {PATIENCE:?}"))?;
         Ok(Outcome {
             output,
-            complaint: String::from_utf8_lossy(&complaint).trim().into(),
+            complaint: String::from_utf8_lossy(&complaint).into(),
             status,
         })
     }

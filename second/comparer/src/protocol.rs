@@ -2,7 +2,7 @@
 
 use std::io::{self, ErrorKind, Read, Write};
 
-use emulator::{Machine, REGISTERS};
+use emulator::{Machine, Refusal, REGISTERS};
 
 use crate::case::{Call, Case, Response};
 use crate::repeat::NUMBERS;
@@ -13,7 +13,7 @@ pub const LIMIT_CODE: u32 = 65_600;
 
 /// Bytes of a case before its registers, and of a response before its registers.
 const CASE_HEAD: usize = 6 * 4 + 2 * 8;
-const RESPONSE_HEAD: usize = 2 * 4 + 2 * 8;
+const RESPONSE_HEAD: usize = 3 * 4 + 2 * 8;
 
 pub fn response_bytes(case: &Case) -> usize {
     RESPONSE_HEAD + 4 * (REGISTERS + case.memory.len() + case.journal.len())
@@ -45,8 +45,13 @@ pub fn put_case(out: &mut Vec<u8>, case: &Case) {
     );
 }
 
+/// The answer word of a response.
+pub fn answer_word(refusal: Refusal) -> u32 {
+    refusal.number() + 256 * refusal.part()
+}
+
 pub fn put_response(out: &mut Vec<u8>, response: &Response) {
-    put_words(out, &[response.answer, response.byte]);
+    put_words(out, &[response.answer, response.byte, response.address]);
     put_machine(out, &response.machine);
     put_words(out, &response.memory);
     put_words(out, &response.journal);
@@ -140,13 +145,14 @@ fn read_up_to(input: &mut impl Read, buffer: &mut [u8]) -> io::Result<usize> {
 /// The response to a case, from exactly `response_bytes` bytes.
 pub fn get_response(bytes: &[u8], case: &Case) -> Response {
     let mut cursor = Cursor(bytes);
-    let (answer, byte) = (cursor.word(), cursor.word());
+    let (answer, byte, address) = (cursor.word(), cursor.word(), cursor.word());
     let machine = cursor.machine();
     let memory = cursor.words(case.memory.len());
     let journal = cursor.words(case.journal.len());
     Response {
         answer,
         byte,
+        address,
         machine,
         memory,
         journal,

@@ -1,8 +1,9 @@
 //! Makes the call of a case with an emulator.
 
-use emulator::{number, Care, Emulator, Machine};
+use emulator::{Care, Emulator, Machine, Refusal};
 
 use crate::case::{Call, Case, Response};
+use crate::protocol::answer_word;
 use crate::repeat::repeat;
 
 pub fn respond<K: Care>(emulator: &mut Emulator<K>, case: Case) -> Response {
@@ -14,29 +15,33 @@ pub fn respond<K: Care>(emulator: &mut Emulator<K>, case: Case) -> Response {
     } = case;
     let (m, mem, jou) = (&mut machine, &mut memory[..], &mut journal[..]);
     let mut byte = 0;
-    let answer = match case.call {
+    let refusal = match case.call {
         Call::Fresh => {
             let fresh = emulator.fresh(mem, jou, &case.code);
-            let answer = number(&fresh);
+            let refusal = fresh.as_ref().err().copied();
             machine = fresh.unwrap_or(Machine::ZERO);
-            answer
+            refusal
         }
-        Call::Step => number(&emulator.step(m, mem, jou)),
-        Call::Tick => number(&emulator.tick(m, mem, jou)),
+        Call::Step => emulator.step(m, mem, jou).err(),
+        Call::Tick => emulator.tick(m, mem, jou).err(),
         Call::Take => {
             let taken = emulator.take(m, mem, jou, case.channel);
             byte = u32::from(taken.unwrap_or(0));
-            number(&taken)
+            taken.err()
         }
-        Call::Give => number(&emulator.give(m, mem, jou, case.channel, case.byte as u8)),
-        Call::Event => number(&emulator.event(m, mem, jou)),
-        Call::Undo => number(&emulator.undo(m, mem, jou)),
-        Call::Clear => number(&emulator.clear(m, mem, jou)),
-        Call::Repeat => number(&repeat(emulator, m, mem, jou, &case.code)),
+        Call::Give => {
+            let given = emulator.give(m, mem, jou, case.channel, case.byte as u8);
+            given.err()
+        }
+        Call::Event => emulator.event(m, mem, jou).err(),
+        Call::Undo => emulator.undo(m, mem, jou).err(),
+        Call::Clear => emulator.clear(m, mem, jou).err(),
+        Call::Repeat => repeat(emulator, m, mem, jou, &case.code).err(),
     };
     Response {
-        answer,
+        answer: refusal.map_or(0, answer_word),
         byte,
+        address: refusal.map_or(0, Refusal::address),
         machine,
         memory,
         journal,

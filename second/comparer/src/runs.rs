@@ -1,8 +1,8 @@
-//! Whole runs of document 01's program: random standard inputs, the lines compared.
+//! Whole runs of document 01's program: random standard inputs, what is written compared.
 
 use crate::assemble;
 use crate::process::Program;
-use crate::program;
+use crate::program::{self, Written};
 use crate::random::Random;
 
 /// A program that runs code from standard input.
@@ -20,16 +20,18 @@ impl Runner {
         Program::find(text).map(Runner::Program)
     }
 
-    fn line(&self, input: &[u8]) -> Result<String, String> {
+    fn run(&self, input: &[u8]) -> Result<Written, String> {
         match self {
-            Runner::Second => Ok(program::line(input) + "\n"),
+            Runner::Second => Ok(program::run(input)),
             Runner::Program(program) => {
                 let outcome = program.run(input.to_vec())?;
+                let complaint = outcome.complaint;
                 if !outcome.status.success() {
-                    let complaint = outcome.complaint;
+                    let complaint = complaint.trim();
                     return Err(format!("a run ended with {}: {complaint}", outcome.status));
                 }
-                Ok(String::from_utf8_lossy(&outcome.output).into())
+                let line = String::from_utf8_lossy(&outcome.output).into();
+                Ok(Written { line, complaint })
             }
         }
     }
@@ -38,7 +40,7 @@ impl Runner {
 /// Lengths around the limits of the program's memory come first.
 const LENGTHS: [usize; 8] = [0, 1, 4_019, 4_020, 4_021, 4_022, 8_042, 2];
 
-/// The number of different lines, and the first few in words.
+/// The number of runs that differ, and the first few in words.
 pub fn compare(
     a: &Runner,
     b: &Runner,
@@ -50,7 +52,7 @@ pub fn compare(
     let mut shown = Vec::new();
     for number in 0..count {
         let input = input(&mut random, number);
-        let (ours, theirs) = (a.line(&input)?, b.line(&input)?);
+        let (ours, theirs) = (a.run(&input)?, b.run(&input)?);
         if ours == theirs {
             continue;
         }
@@ -62,11 +64,13 @@ pub fn compare(
                 .map(|byte| format!("{byte:02X}"))
                 .collect();
             shown.push(format!(
-                "run {number}: {} bytes, {}\n  {}  against\n  {}",
+                "run {number}: {} bytes, {}\n  {}{}  against\n  {}{}",
                 input.len(),
                 head.join(" "),
-                ours,
-                theirs
+                ours.line,
+                ours.complaint,
+                theirs.line,
+                theirs.complaint
             ));
         }
     }

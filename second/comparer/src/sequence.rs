@@ -117,7 +117,7 @@ impl Mood {
         } else {
             self.refused + 1
         };
-        let stuck = case.call == Call::Step && [6, 9, 10, 11].contains(&response.answer);
+        let stuck = case.call == Call::Step && [6, 9, 10, 11].contains(&(response.answer % 256));
         let dead = is_idle(response) && helpful(&response.machine.regs).is_empty();
         self.refused > 8 || (stuck && random.percent(40)) || (dead && random.percent(20))
     }

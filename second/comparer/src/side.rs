@@ -67,7 +67,7 @@ fn outside(name: &str, program: &Program, cases: &[Case]) -> Result<Vec<Response
                 responses.len(),
                 cases.len(),
                 describe(asked(case)),
-                outcome.complaint
+                outcome.complaint.trim()
             ));
         };
         responses.push(get_response(bytes, case));
@@ -79,7 +79,8 @@ fn outside(name: &str, program: &Program, cases: &[Case]) -> Result<Vec<Response
     if !outcome.status.success() {
         return Err(format!(
             "{name} ended with {}: {}",
-            outcome.status, outcome.complaint
+            outcome.status,
+            outcome.complaint.trim()
         ));
     }
     Ok(responses)

@@ -2,8 +2,10 @@
 
 use emulator::registers::*;
 
-use crate::case::{Call, Case};
+use crate::case::{Call, Case, Response};
 use crate::instructions::{function_code, operation_place, FUNCTIONS, OPERATIONS};
+use crate::names::{answer_place, ANSWERS};
+use crate::outside::Outside;
 
 /// What a case asks an emulator to do.
 #[derive(Clone, Copy, Debug, PartialEq, Eq)]
@@ -84,12 +86,13 @@ pub fn describe(asked: Asked) -> String {
     }
 }
 
-/// Answers are counted by number; the last place is for numbers that document 01 does not have.
-const ANSWERS: usize = 14;
+/// Answers are counted in the order of their list; the last place is for any other.
+const PLACES: usize = ANSWERS.len() + 1;
 
-/// How often each row was answered with each number.
+/// How often each row met each answer.
 pub struct Table {
-    rows: Vec<(String, [u64; ANSWERS])>,
+    rows: Vec<(String, [u64; PLACES])>,
+    outside: Outside,
 }
 
 const REQUESTS: usize = 8;
@@ -109,12 +112,14 @@ impl Table {
         names.push("unlisted".into());
         let instructions = FUNCTIONS.iter().chain(OPERATIONS.iter());
         names.extend(instructions.map(|instruction| instruction.name.into()));
-        let rows = names.into_iter().map(|name| (name, [0; ANSWERS])).collect();
-        Table { rows }
+        let rows = names.into_iter().map(|name| (name, [0; PLACES])).collect();
+        let outside = Outside::default();
+        Table { rows, outside }
     }
 
-    pub fn count(&mut self, asked: Asked, answer: u32) {
-        let answer = (answer as usize).min(ANSWERS - 1);
+    pub fn count(&mut self, asked: Asked, response: &Response) {
+        self.outside.count(asked, response);
+        let answer = answer_place(response.answer).unwrap_or(PLACES - 1);
         if !matches!(asked, Asked::Call(_)) {
             self.rows[Call::Step as usize].1[answer] += 1;
         }
@@ -126,12 +131,12 @@ impl Table {
 
     pub fn print(&self) -> String {
         let mut text = format!("{:<14}{:>9}", "", "accepted");
-        for number in 1..ANSWERS - 1 {
-            text += &format!("{number:>7}");
+        for answer in &ANSWERS[1..] {
+            text += &format!("{:>7}", answer.1);
         }
         for (name, counts) in &self.rows {
             text += &format!("\n{name:<14}{:>9}", counts[0]);
-            for count in &counts[1..ANSWERS - 1] {
+            for count in &counts[1..PLACES - 1] {
                 text += &format!(
                     "{:>7}",
                     if *count == 0 {
@@ -142,10 +147,14 @@ impl Table {
                 );
             }
         }
+        for (name, count) in self.outside.places() {
+            text += &format!("\n{name:<58}{count:>7}");
+        }
         text
     }
 
-    /// What falls short: fewer than `least` accepted, or a refusal that a call can meet and did not.
+    /// What falls short: fewer than `least` accepted, a refusal that a call can meet and did not, or a
+    /// place outside memory met fewer than `least` times.
     pub fn shortfalls(&self, least: u64) -> Vec<String> {
         let mut short = Vec::new();
         for (row, (name, counts)) in self.rows.iter().enumerate() {
@@ -155,11 +164,17 @@ impl Table {
             }
         }
         for call in Call::ALL {
-            for &number in meets(call) {
+            for label in meets(call).split(' ') {
                 let (name, counts) = &self.rows[call as usize];
-                if counts[number] == 0 {
-                    short.push(format!("{name}: never answered {number}"));
+                let place = ANSWERS.iter().position(|answer| answer.1 == label);
+                if place.is_none_or(|place| counts[place] == 0) {
+                    short.push(format!("{name}: never answered {label}"));
                 }
+            }
+        }
+        for (name, count) in self.outside.places() {
+            if count < least {
+                short.push(format!("{name}: {count} times only"));
             }
         }
         short
@@ -185,15 +200,16 @@ fn row_of(asked: Asked) -> usize {
 }
 
 /// The refusals that a call can meet, by document 01's table.
-fn meets(call: Call) -> &'static [usize] {
+fn meets(call: Call) -> &'static str {
     match call {
-        Call::Fresh => &[1, 2],
-        Call::Step => &[1, 4, 6, 7, 9, 10, 11, 12],
-        Call::Tick => &[1, 4, 12],
-        Call::Take | Call::Give => &[1, 3, 4, 8, 10, 12],
-        Call::Event => &[1, 4, 8, 12],
-        Call::Undo => &[1, 4, 5],
-        Call::Clear => &[1],
-        Call::Repeat => &[],
+        Call::Fresh => "1 2",
+        Call::Step => "1 4 6 7 9 10a 10b 10c 11 12",
+        Call::Tick => "1 4 12",
+        Call::Take => "1 3 4 8 10b 12",
+        Call::Give => "1 3 4 8 10c 12",
+        Call::Event => "1 4 8 12",
+        Call::Undo => "1 4 5",
+        Call::Clear => "1",
+        Call::Repeat => "",
     }
 }

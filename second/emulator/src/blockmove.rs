@@ -2,7 +2,7 @@
 //! is stored, the count unsigned.
 
 use crate::answers::Refusal;
-use crate::memory::{Kept, Work};
+use crate::memory::{Access, Kept, Work};
 use crate::mistakes::{Care, Mistake};
 use crate::registers::*;
 use crate::words::{at_byte, byte_of, with_byte};
@@ -15,8 +15,10 @@ impl<K: Care> Work<'_, K> {
         if count == 0 {
             return Ok(());
         }
-        let from = self.bytes_inside(source, count)?;
-        let to = self.bytes_inside(dest, count)?;
+        if let Some(refusal) = self.move_outside(source, dest, count) {
+            return Err(refusal);
+        }
+        let [from, to] = [source, dest].map(|address| address.wrapping_sub(MIN_INT) as usize);
         self.keep_range(to / 4, (to + count as usize - 1) / 4 + 1);
         if self.wrong(Mistake::OverlapSavedTwice) && from.abs_diff(to) < count as usize {
             self.kept
@@ -38,14 +40,35 @@ impl<K: Care> Work<'_, K> {
         Ok(())
     }
 
-    /// The byte offset of a block that lies inside memory as a whole. A block that does not is
-    /// refused at its first byte outside; what went before it would be undone again.
-    fn bytes_inside(&self, address: u32, count: u32) -> Result<usize, Refusal> {
-        let offset = u64::from(address.wrapping_sub(MIN_INT));
-        if offset + u64::from(count) > 4 * self.memory.len() as u64 {
-            return Err(Refusal::Outside);
+    /// How many bytes from an address on lie inside memory.
+    fn bytes_inside(&self, address: u32) -> u32 {
+        let bytes = 4 * self.memory.len() as u32;
+        bytes.saturating_sub(address.wrapping_sub(MIN_INT))
+    }
+
+    /// The first access outside of load 0, store 0, load 1, .. (DECISIONS 58); what went before it
+    /// would be undone again.
+    fn move_outside(&self, source: u32, dest: u32, count: u32) -> Option<Refusal> {
+        let (loads, stores) = (self.bytes_inside(source), self.bytes_inside(dest));
+        if loads >= count && stores >= count {
+            return None;
         }
-        Ok(offset as usize)
+        let load_first = if self.wrong(Mistake::MoveSourceFirst) {
+            loads < count
+        } else if self.wrong(Mistake::MoveDestinationFirst) {
+            stores >= count
+        } else {
+            loads <= stores
+        };
+        let (access, start, inside) = if load_first {
+            (Access::Load, source, loads)
+        } else {
+            (Access::Store, dest, stores)
+        };
+        if self.wrong(Mistake::MoveTellsItsStart) {
+            return Some(self.outside(access, start));
+        }
+        Some(self.outside(access, start.wrapping_add(inside)))
     }
 
     /// Keeps the words from `first` to below `end` that are not kept yet.

@@ -1,5 +1,7 @@
 //! The eight calls. Each call's checks run in the order of document 01's table of answers.
 
+use std::cell::Cell;
+
 use crate::answers::Refusal;
 use crate::journal;
 use crate::links;
@@ -177,8 +179,12 @@ impl<K: Care> Emulator<K> {
             care: self.care,
             starting: false,
             interrupting: false,
+            late: Cell::new(None),
         };
-        let done = body(&mut work, channel);
+        let mut done = body(&mut work, channel);
+        if let Some(last) = work.late.get() {
+            done = Err(last);
+        }
         let answer = done.and_then(|done| {
             journal::add(self.care, machine, journal, &old, &mut self.kept)?;
             Ok(done)

@@ -69,6 +69,9 @@ impl<K: Care> Work<'_, K> {
     fn call(&mut self, operand: u32) -> Result<(), Refusal> {
         let wptr = self.wptr();
         let iptr = self.regs[IPTR];
+        if self.wrong(Mistake::CallFrameFromBelow) {
+            self.w_index_word(wptr, below(4), iptr)?;
+        }
         self.w_index_word(wptr, below(1), self.regs[C])?;
         self.w_index_word(wptr, below(2), self.regs[B])?;
         self.w_index_word(wptr, below(3), self.regs[A])?;

@@ -1,7 +1,7 @@
-//! The second emulator of the T414: the eight calls of document 01's base.
+//! The second emulator of the T414: the eight calls of document 01, with document 02's No. 1.
 //!
-//! It is written from document 000 (the T414B description in occam), document 01 (the rulings) and
-//! docs/DECISIONS.md alone, so that it can disagree with the proved one. Procedures stand under
+//! It is written from document 000 (the T414B description in occam), documents 01 and 02 (the
+//! rulings and requests) and docs/DECISIONS.md alone, so that it can disagree with the proved one. Procedures stand under
 //! document 000's own names. Every value of every register, memory word, journal word and argument
 //! is legal: no call panics, overflows or runs for ever.
 #![forbid(unsafe_code)]

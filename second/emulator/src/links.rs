@@ -27,14 +27,16 @@ impl<K: Care> Work<'_, K> {
         if !self.moving(channel) {
             return Err(Refusal::NotReady);
         }
-        let byte = self.r_index_byte(self.regs[pointer_of(channel)], 0)?;
+        let byte = self.r_index_byte(self.regs[pointer_of(channel)], 0);
+        let byte = byte.map_err(|refusal| self.exchanged(refusal))?;
         self.one_byte_passed(channel);
         Ok(byte as u8)
     }
 
     pub fn give(&mut self, channel: usize, byte: u8) -> Result<(), Refusal> {
         if self.moving(channel) {
-            return self.store_given(channel, u32::from(byte));
+            let stored = self.store_given(channel, u32::from(byte));
+            return stored.map_err(|refusal| self.exchanged(refusal));
         }
         let flags = &mut self.regs[flags_of(channel)];
         if *flags & HELD != 0 {
@@ -43,6 +45,16 @@ impl<K: Care> Work<'_, K> {
         *flags = (*flags & !HELD_BYTE) | (u32::from(byte) << 8);
         self.hold(channel);
         Ok(())
+    }
+
+    /// A wrong variant takes the access of take for a store, that of give for a load.
+    fn exchanged(&self, refusal: Refusal) -> Refusal {
+        match refusal {
+            _ if !self.wrong(Mistake::TakeAndGiveExchanged) => refusal,
+            Refusal::OutsideLoad(address) => Refusal::OutsideStore(address),
+            Refusal::OutsideStore(address) => Refusal::OutsideLoad(address),
+            _ => refusal,
+        }
     }
 
     pub fn event(&mut self) -> Result<(), Refusal> {

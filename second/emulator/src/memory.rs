@@ -3,6 +3,7 @@
 //! The first old value of every word that the call stores to is kept: it undoes a refused call and
 //! becomes the record of an accepted one.
 
+use std::cell::Cell;
 use std::ops::Range;
 
 use crate::answers::Refusal;
@@ -12,6 +13,14 @@ use crate::words::{at_word, byte_of, with_byte};
 
 /// A stored word's index and its value before the call.
 pub type Kept = (u32, u32);
+
+/// What an access is.
+#[derive(Clone, Copy)]
+pub enum Access {
+    Fetch,
+    Load,
+    Store,
+}
 
 /// A call in progress.
 pub struct Work<'a, K> {
@@ -25,6 +34,8 @@ pub struct Work<'a, K> {
     /// Only read by wrong variants: StartNextProcess or an interrupt is running.
     pub starting: bool,
     pub interrupting: bool,
+    /// Only set by a wrong variant that goes on after an access outside: the last of them.
+    pub late: Cell<Option<Refusal>>,
 }
 
 impl<K: Care> Work<'_, K> {
@@ -33,20 +44,44 @@ impl<K: Care> Work<'_, K> {
         self.care.wrong(mistake)
     }
 
-    /// The word that an address falls in; a word access ignores the low two bits.
+    /// The word that an address falls in; a word access ignores the low two bits. There is none only
+    /// where a wrong variant goes on after an access outside.
     #[inline(always)]
-    pub fn index(&self, address: u32) -> Result<usize, Refusal> {
+    fn index(&self, access: Access, address: u32) -> Result<Option<usize>, Refusal> {
         let index = (address.wrapping_sub(MIN_INT) >> 2) as usize;
         if index < self.memory.len() {
-            Ok(index)
-        } else {
-            Err(Refusal::Outside)
+            return Ok(Some(index));
         }
+        let refusal = self.outside(access, address);
+        if self.wrong(Mistake::LastAccessOutside) {
+            return Ok(None);
+        }
+        Err(refusal)
+    }
+
+    /// The refusal of an access outside: its kind, and its address as computed (DECISIONS 58).
+    pub fn outside(&self, access: Access, address: u32) -> Refusal {
+        let address = if self.wrong(Mistake::OutsideAddressMasked) {
+            address & !3
+        } else {
+            address
+        };
+        let refusal = match access {
+            Access::Fetch if !self.wrong(Mistake::FetchIsLoad) => Refusal::OutsideFetch(address),
+            Access::Fetch | Access::Load => Refusal::OutsideLoad(address),
+            Access::Store => Refusal::OutsideStore(address),
+        };
+        if self.wrong(Mistake::LastAccessOutside) {
+            self.late.set(Some(refusal));
+        }
+        refusal
     }
 
     #[inline(always)]
     pub fn r_index_word(&self, base: u32, n: u32) -> Result<u32, Refusal> {
-        let index = self.index(at_word(base, n))?;
+        let Some(index) = self.index(Access::Load, at_word(base, n))? else {
+            return Ok(0);
+        };
         if self.stale(index) {
             return Ok(self.before(index));
         }
@@ -55,24 +90,42 @@ impl<K: Care> Work<'_, K> {
 
     #[inline(always)]
     pub fn w_index_word(&mut self, base: u32, n: u32, x: u32) -> Result<(), Refusal> {
-        let index = self.index(at_word(base, n))?;
-        self.put(index, x);
+        if let Some(index) = self.index(Access::Store, at_word(base, n))? {
+            self.put(index, x);
+        }
         Ok(())
     }
 
     #[inline(always)]
     pub fn r_index_byte(&self, base: u32, n: u32) -> Result<u32, Refusal> {
-        let address = base.wrapping_add(n);
-        let word = self.memory[self.index(address)?];
+        self.byte_at(Access::Load, base.wrapping_add(n))
+    }
+
+    /// The byte of an instruction.
+    #[inline(always)]
+    pub fn fetch_byte(&self, address: u32) -> Result<u32, Refusal> {
+        self.byte_at(Access::Fetch, address)
+    }
+
+    #[inline(always)]
+    fn byte_at(&self, access: Access, address: u32) -> Result<u32, Refusal> {
+        let index = self.index(access, address)?;
+        let word = index.map_or(0, |index| self.memory[index]);
         Ok(byte_of(word, self.selector(address)))
     }
 
     #[inline(always)]
     pub fn w_index_byte(&mut self, base: u32, n: u32, byte: u32) -> Result<(), Refusal> {
         let address = base.wrapping_add(n);
-        let index = self.index(address)?;
-        let word = with_byte(self.memory[index], self.selector(address), byte);
-        self.put(index, word);
+        let access = if self.wrong(Mistake::ByteStoreIsLoad) {
+            Access::Load
+        } else {
+            Access::Store
+        };
+        if let Some(index) = self.index(access, address)? {
+            let word = with_byte(self.memory[index], self.selector(address), byte);
+            self.put(index, word);
+        }
         Ok(())
     }
 

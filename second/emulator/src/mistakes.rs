@@ -174,4 +174,21 @@ mistakes! {
     DepthTimes46Wraps,
     FreshWithoutSpareWord,
     FreshForgetsSaveArea,
+    /// The address of an access outside is told without its low two bits.
+    OutsideAddressMasked,
+    /// An access outside does not end the call, and the last one is told.
+    LastAccessOutside,
+    FetchIsLoad,
+    /// A byte store outside is told as the load of the word around it.
+    ByteStoreIsLoad,
+    /// The whole source of a move is looked at before its destination.
+    MoveSourceFirst,
+    /// The whole destination of a move is looked at before its source.
+    MoveDestinationFirst,
+    /// A move that leaves memory tells where it began.
+    MoveTellsItsStart,
+    /// A call's frame is stored from its lowest word up.
+    CallFrameFromBelow,
+    /// take outside is told as a store, give outside as a load.
+    TakeAndGiveExchanged,
 }

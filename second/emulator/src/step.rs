@@ -87,7 +87,7 @@ impl<K: Care> Work<'_, K> {
 
     /// (c): DECISIONS 2 says how the operand is built.
     fn instruction(&mut self) -> Result<bool, Refusal> {
-        let byte = self.r_index_byte(self.regs[IPTR], 0)?;
+        let byte = self.fetch_byte(self.regs[IPTR])?;
         self.regs[IPTR] = self.regs[IPTR].wrapping_add(1);
         let operand = self.regs[OREG] | (byte & 15);
         match byte >> 4 {

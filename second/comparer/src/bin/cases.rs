@@ -81,7 +81,7 @@ fn tally(source: Source, count: u64) -> Result<Table, String> {
     let mut table = Table::new();
     each(source, count, |case| {
         let asked = asked(&case);
-        table.count(asked, respond(&mut emulator, case).answer);
+        table.count(asked, &respond(&mut emulator, case));
     })?;
     Ok(table)
 }

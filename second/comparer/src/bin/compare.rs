@@ -19,7 +19,7 @@ second (inside compare) or wrong:NAME (a wrong variant).
 --seq         sequences of calls from fresh in place of random states
 --first       end after the first 2,000 cases with a difference
 --save FILE   write the first differing case to a file, in the batch protocol
---run         runs of code from standard input, the printed lines compared";
+--run         runs of code from standard input, what is written compared";
 
 struct Arguments {
     programs: [String; 2],

@@ -3,12 +3,14 @@
 
 use std::io::{self, Read};
 
-use comparer::program::{line, MOST_CODE};
+use comparer::program::{run, MOST_CODE};
 
 fn main() -> io::Result<()> {
     let mut code = Vec::new();
     let most = MOST_CODE as u64;
     io::stdin().lock().take(most).read_to_end(&mut code)?;
-    println!("{}", line(&code));
+    let written = run(&code);
+    print!("{}", written.line);
+    eprint!("{}", written.complaint);
     Ok(())
 }

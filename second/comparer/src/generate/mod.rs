@@ -49,10 +49,14 @@ impl Generator {
         if call == Call::Step {
             steps::prepare(random, &mut scene);
         }
+        let channel = channel(random, call);
+        if [Call::Take, Call::Give].contains(&call) && random.percent(6) {
+            scene.outside_transfer(random, channel);
+        }
         scene.damage(random);
         let mut case = Case {
             call,
-            channel: channel(random, call),
+            channel,
             byte: if random.percent(80) {
                 random.below(256)
             } else {

@@ -161,6 +161,16 @@ impl Scene {
         }
     }
 
+    /// A link that moves with its pointer just outside memory.
+    pub fn outside_transfer(&mut self, random: &mut Random, channel: u32) {
+        let channel = channel as usize;
+        if channel < LINK_CHANS {
+            self.regs[pointer_of(channel)] = self.just_outside(random);
+            self.regs[count_of(channel)] = random.between(1, 9);
+            self.regs[flags_of(channel)] |= ACTIVE;
+        }
+    }
+
     /// Any word may be anything: some states are damaged after all.
     pub fn damage(&mut self, random: &mut Random) {
         if random.percent(4) {
@@ -222,7 +232,7 @@ impl Scene {
     /// An address where something is likely to stand; its low bits are sometimes set.
     pub fn address(&self, random: &mut Random) -> u32 {
         let words = self.size.max(1) as u32;
-        let index = match random.below(20) {
+        let index = match random.below(21) {
             0..=8 => {
                 let offset = random.below(8).wrapping_sub(5);
                 let spot = self.spot(random);
@@ -231,9 +241,21 @@ impl Scene {
             9..=11 => random.below(20),
             12..=17 => random.below(words),
             18 => words.wrapping_add(random.below(6)).wrapping_sub(3),
-            _ => random.below(6).wrapping_sub(3),
+            19 => random.below(6).wrapping_sub(3),
+            _ => return self.just_outside(random),
         };
         crooked(random, MIN_INT.wrapping_add(index.wrapping_mul(4)))
+    }
+
+    /// Where memory ends.
+    pub fn end(&self) -> u32 {
+        word(self.size as u32)
+    }
+
+    /// An address just outside memory, at either end; its low bits are any.
+    pub fn just_outside(&self, random: &mut Random) -> u32 {
+        let from = random.pick(&[MIN_INT - 16, self.end()]);
+        from + random.below(16)
     }
 
     /// An address inside memory, if there is any memory.
@@ -291,7 +313,7 @@ fn spots(random: &mut Random, size: usize) -> Vec<u32> {
         let index = match random.below(20) {
             0..=11 => random.between(24, words - 6),
             12..=14 => random.between(5, 23),
-            15 => words.wrapping_add(random.below(6)).wrapping_sub(4),
+            15 => words.wrapping_add(random.below(10)).wrapping_sub(4),
             16 => random.below(6),
             _ => match spots.last() {
                 Some(last) => ((last - MIN_INT) / 4).wrapping_add(random.below(5)),

@@ -18,6 +18,7 @@ pub fn prepare(random: &mut Random, scene: &mut Scene) {
         10..=16 => timer_request(random, scene),
         17..=40 => function(random, scene),
         41 => unlisted(random, scene),
+        42 => no_byte(random, scene),
         _ => {
             let any = random.pick(&OPERATIONS).name;
             let busy = random.pick(&BUSY);
@@ -83,7 +84,7 @@ fn function(random: &mut Random, scene: &mut Scene) {
         operand = random.pick(&[near, any, same]);
     }
     if (name == "ldnl" || name == "stnl") && random.percent(85) {
-        scene.regs[A] = scene.address(random);
+        scene.regs[A] = data_address(random, scene);
     }
     if name == "cj" {
         scene.regs[A] = random.below(2);
@@ -108,6 +109,12 @@ fn unlisted(random: &mut Random, scene: &mut Scene) {
     let above = random.between(0x5A, 0x200);
     let code = random.pick(&[0x11, 0x14, 0x23, 0x28, 0x2D, 0x63, 0x19B, above, above, any]);
     place(random, scene, "opr", code);
+}
+
+/// Nothing to fetch.
+fn no_byte(random: &mut Random, scene: &mut Scene) {
+    place(random, scene, "j", 0);
+    scene.regs[IPTR] = scene.just_outside(random);
 }
 
 /// Puts the last byte of an instruction at Iptr and the rest of its operand into Oreg.
@@ -144,7 +151,7 @@ fn quiet_channels(scene: &mut Scene) {
 /// Operands that suit the operation.
 fn operands(random: &mut Random, scene: &mut Scene, name: &str) {
     match name {
-        "lb" | "sb" | "saveh" | "savel" => scene.regs[A] = scene.address(random),
+        "lb" | "sb" | "saveh" | "savel" => scene.regs[A] = data_address(random, scene),
         "lend" => loop_end(random, scene),
         "in" | "out" => communication(random, scene, name == "in"),
         "outword" | "outbyte" => communication(random, scene, false),
@@ -173,6 +180,14 @@ fn operands(random: &mut Random, scene: &mut Scene, name: &str) {
         "alt" | "altwt" | "altend" | "talt" | "rev" | "stopp" | "ret" => {}
         _ => arithmetic(random, scene),
     }
+}
+
+/// An address, more often than others just outside memory.
+fn data_address(random: &mut Random, scene: &Scene) -> u32 {
+    if random.percent(10) {
+        return scene.just_outside(random);
+    }
+    scene.address(random)
 }
 
 /// A number at an edge of the range.
@@ -261,7 +276,8 @@ fn loop_end(random: &mut Random, scene: &mut Scene) {
     scene.put(block, 1, count);
 }
 
-/// Two blocks, often close to each other or on words that the scheduler is going to read.
+/// Two blocks, often close to each other, on words that the scheduler is going to read, or one of
+/// them or both across the end of memory.
 fn block(random: &mut Random, scene: &mut Scene) {
     let any = random.word();
     let bytes = 4 * scene.size as u32;
@@ -273,6 +289,12 @@ fn block(random: &mut Random, scene: &mut Scene) {
         4 => scheduler_word(random, scene),
         _ => buffer(random, scene),
     };
+    if random.percent(25) {
+        scene.regs[A] = random.between(8, 60);
+        for register in random.pick(&[&[B][..], &[B], &[C], &[C], &[B, C]]) {
+            scene.regs[*register] = scene.end().wrapping_sub(random.below(30));
+        }
+    }
 }
 
 /// Where a message or block begins: anywhere, or a little before a word that means something.

@@ -4,7 +4,9 @@ use comparer::case::{Call, Case, Response};
 use comparer::generate::Generator;
 use comparer::random::Random;
 use comparer::respond::respond;
-use emulator::{Emulator, Machine, RECORD, REGISTERS};
+use comparer::table::{asked, Asked};
+use emulator::registers::{pointer_of, IPTR, MIN_INT};
+use emulator::{Emulator, Machine, MAX_MEMORY, RECORD, REGISTERS};
 
 fn count() -> u32 {
     if cfg!(debug_assertions) {
@@ -74,6 +76,53 @@ fn check_record(emulator: &mut Emulator, case: &Case, response: Response) {
     );
     assert_eq!((undone.answer, undone.machine), (0, case.machine.clone()));
     assert_eq!((undone.memory, undone.journal), (memory, response.journal));
+}
+
+/// An answer that is not 10 has neither part nor address. An access outside memory is told as the
+/// access it is; and as the first of them: in a longer memory the answer is the same for as long as
+/// that address is outside, and another one as soon as it is inside.
+#[test]
+fn the_first_access_outside_is_told() {
+    let mut generator = Generator::new(12, &[Call::Step, Call::Take, Call::Give]);
+    let mut random = Random::new(12);
+    let mut emulator = Emulator::new();
+    for _ in 0..count() {
+        let case = generator.case();
+        let response = respond(&mut emulator, case.clone());
+        let address = response.address;
+        if response.answer % 256 != 10 {
+            assert_eq!((response.answer / 256, address), (0, 0));
+            continue;
+        }
+        check_part(&case, &response);
+        let index = (address.wrapping_sub(MIN_INT) / 4) as usize;
+        let more = case.memory.len() + random.below(40) as usize;
+        for words in [more, index, index + 1] {
+            if words < case.memory.len() || words > MAX_MEMORY {
+                continue;
+            }
+            let mut longer = case.clone();
+            longer.memory.resize_with(words, || random.word());
+            let again = respond(&mut emulator, longer);
+            let same = (again.answer, again.address) == (response.answer, address);
+            assert_eq!(same, index >= words, "{case:?}");
+        }
+    }
+}
+
+fn check_part(case: &Case, response: &Response) {
+    let (regs, address) = (case.regs(), response.address);
+    let outside = address.wrapping_sub(MIN_INT) / 4 >= case.memory.len() as u32;
+    let fetch = matches!(asked(case), Asked::NoByte);
+    let link = pointer_of(case.channel as usize);
+    let agrees = match (response.answer / 256, case.call) {
+        (1, Call::Step) => fetch && address == regs[IPTR],
+        (2 | 3, Call::Step) => !fetch,
+        (2, Call::Take) => address == regs[link],
+        (3, Call::Give) => address == regs[link],
+        _ => false,
+    };
+    assert!(outside && agrees, "{case:?} {address:X}");
 }
 
 /// Any words at all: no panic, no overflow, no hang.

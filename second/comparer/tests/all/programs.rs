@@ -5,10 +5,11 @@ use std::process::Command;
 use comparer::case::Call;
 use comparer::generate::Generator;
 use comparer::process::Program;
-use comparer::program::line;
-use comparer::protocol::{get_response, put_case, read_case, response_bytes};
+use comparer::program::{run, Written};
+use comparer::protocol::{get_response, put_case, put_response, read_case, response_bytes};
 use comparer::respond::respond;
-use emulator::Emulator;
+use emulator::registers::{count_of, flags_of, pointer_of, ACTIVE, MIN_INT};
+use emulator::{Emulator, Machine};
 
 const BATCH: &str = env!("CARGO_BIN_EXE_second_batch");
 const RUN: &str = env!("CARGO_BIN_EXE_second_run");
@@ -30,6 +31,32 @@ fn a_case_is_read_as_it_was_written() {
         );
     }
     assert_eq!(read_case(&mut &[][..]), Ok(None));
+}
+
+/// The answer word, the byte, the address: a take that is refused with 10b, and one that is accepted.
+#[test]
+fn a_response_tells_part_and_address() {
+    let mut case = Generator::new(2, &[Call::Take]).case();
+    case.machine = Machine::ZERO;
+    (case.channel, case.memory, case.journal) = (2, vec![0x0A0B_0C0D; 64], vec![0; 64]);
+    case.machine.regs[count_of(2)] = 1;
+    case.machine.regs[flags_of(2)] = ACTIVE;
+    for (pointer, head) in [
+        (MIN_INT + 256 + 1, [10 + 2 * 256, 0, MIN_INT + 256 + 1]),
+        (MIN_INT + 255, [0, 0x0A, 0]),
+    ] {
+        case.machine.regs[pointer_of(2)] = pointer;
+        let response = respond(&mut Emulator::new(), case.clone());
+        let mut bytes = Vec::new();
+        put_response(&mut bytes, &response);
+        let head: Vec<u8> = head
+            .iter()
+            .flat_map(|word: &u32| word.to_le_bytes())
+            .collect();
+        assert_eq!(bytes[..12], head);
+        assert_eq!(bytes.len(), response_bytes(&case));
+        assert_eq!(get_response(&bytes, &case), response);
+    }
 }
 
 #[test]
@@ -78,25 +105,50 @@ fn second_batch_ends_at_a_bad_case() {
 fn the_program_of_document_01() {
     let code = [0x41, 0x81, 0x25, 0xF8, 0x21, 0xF0];
     let example = "00000002 00000000 00000000 6 276 6";
-    assert_eq!(line(&code), example);
     let refused = "00000000 00000000 00000000 0 0 2";
-    assert_eq!(line(&[]), refused);
-    assert_eq!(line(&[0x40; 4_021]), refused);
-    assert_eq!(
-        line(&[0x41; 4_020]),
-        "00000001 00000001 00000001 100 4600 0"
-    );
+    let whole = "00000001 00000001 00000001 100 4600 0";
     for (input, expected) in [
         (&code[..], example),
         (&[], refused),
+        (&[0x40; 4_021], refused),
         (&[0x40; 5_000], refused),
+        (&[0x41; 4_020], whole),
     ] {
-        let outcome = Program::find(RUN).unwrap().run(input.to_vec()).unwrap();
-        assert_eq!(
-            String::from_utf8_lossy(&outcome.output),
-            format!("{expected}\n")
-        );
+        check_run(input, expected, "");
     }
+}
+
+/// DECISIONS 58: the letter in the line, the address on standard error.
+#[test]
+fn the_program_tells_which_access_went_outside() {
+    check_run(
+        &[0x6F, 0x00],
+        "00000000 00000000 00000000 2 92 10a",
+        "10a: fetch outside memory at 7FFFFF4A\n",
+    );
+    check_run(
+        &[0x24, 0xF2, 0x60, 0x3F],
+        "80000000 00000000 00000000 3 138 10b",
+        "10b: load outside memory at 7FFFFFFC\n",
+    );
+    check_run(
+        &[0x41, 0xE0],
+        "00000001 00000000 00000000 1 46 10c",
+        "10c: store outside memory at 00000001\n",
+    );
+}
+
+/// Inside the comparer and as a program.
+fn check_run(input: &[u8], line: &str, complaint: &str) {
+    let expected = Written {
+        line: format!("{line}\n"),
+        complaint: complaint.into(),
+    };
+    assert_eq!(run(input), expected);
+    let outcome = Program::find(RUN).unwrap().run(input.to_vec()).unwrap();
+    assert!(outcome.status.success());
+    assert_eq!(String::from_utf8_lossy(&outcome.output), expected.line);
+    assert_eq!(outcome.complaint, expected.complaint);
 }
 
 fn compare(arguments: &str) -> (Option<i32>, String) {

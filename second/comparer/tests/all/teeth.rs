@@ -59,14 +59,24 @@ fn the_true_emulator_does_not_differ_from_itself() {
 
 #[test]
 fn a_difference_is_told_in_words() {
-    let mut options = Options::new(1, 20_000);
-    options.stop = true;
-    let mut right = Side::Second(Emulator::new());
-    let mut wrong = Side::wrong(Mistake::UnsignedGt);
-    let report = compare(&mut right, &mut wrong, &options).expect("both sides run");
-    let text = &report.shown[0];
-    assert!(
-        text.contains("step: gt") && text.contains("\n  A: 0000000"),
-        "{text}"
-    );
+    for (mistake, words) in [
+        (Mistake::UnsignedGt, ["step: gt", "\n  A: 0000000"]),
+        (
+            Mistake::FetchIsLoad,
+            [
+                "step: fetch",
+                "answer: 10a OutsideFetch against 10b OutsideLoad",
+            ],
+        ),
+        (Mistake::OutsideAddressMasked, ["", "\n  address outside: "]),
+    ] {
+        let mut options = Options::new(1, 20_000);
+        options.stop = true;
+        let mut right = Side::Second(Emulator::new());
+        let mut wrong = Side::wrong(mistake);
+        let report = compare(&mut right, &mut wrong, &options).expect("both sides run");
+        let text = &report.shown[0];
+        let told = words.iter().all(|word| text.contains(word));
+        assert!(told, "{text}");
+    }
 }

@@ -5,5 +5,6 @@ mod edges;
 mod links;
 mod one_step;
 mod operations;
+mod outside;
 mod rig;
 mod scenarios;

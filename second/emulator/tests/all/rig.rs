@@ -1,12 +1,14 @@
 //! A machine on the bench: set it up, make calls, look at it.
 
 use emulator::registers::*;
-use emulator::{number, Emulator, Machine};
+use emulator::{number, Emulator, Machine, Refusal};
 
 pub struct Rig {
     pub m: Machine,
     pub mem: Vec<u32>,
     pub jou: Vec<u32>,
+    /// The last call's refusal.
+    pub refusal: Option<Refusal>,
     emulator: Emulator,
 }
 
@@ -29,6 +31,7 @@ impl Rig {
             m,
             mem,
             jou,
+            refusal: None,
             emulator,
         }
     }
@@ -95,12 +98,17 @@ impl Rig {
         self.get(register) & bits == bits
     }
 
+    /// Keeps the refusal and gives the answer's number.
+    fn answer<T>(&mut self, answer: Result<T, Refusal>) -> u32 {
+        let number = number(&answer);
+        self.refusal = answer.err();
+        number
+    }
+
     pub fn step(&mut self) -> u32 {
-        number(
-            &self
-                .emulator
-                .step(&mut self.m, &mut self.mem, &mut self.jou),
-        )
+        let (m, mem, jou) = (&mut self.m, &mut self.mem, &mut self.jou);
+        let answer = self.emulator.step(m, mem, jou);
+        self.answer(answer)
     }
 
     pub fn steps(&mut self, count: u32) {
@@ -134,39 +142,38 @@ impl Rig {
     }
 
     pub fn tick(&mut self) -> u32 {
-        number(
-            &self
-                .emulator
-                .tick(&mut self.m, &mut self.mem, &mut self.jou),
-        )
+        let (m, mem, jou) = (&mut self.m, &mut self.mem, &mut self.jou);
+        let answer = self.emulator.tick(m, mem, jou);
+        self.answer(answer)
     }
 
     pub fn take(&mut self, channel: u32) -> Result<u8, u32> {
-        let taken = self
-            .emulator
-            .take(&mut self.m, &mut self.mem, &mut self.jou, channel);
+        let (m, mem, jou) = (&mut self.m, &mut self.mem, &mut self.jou);
+        let taken = self.emulator.take(m, mem, jou, channel);
+        self.refusal = taken.err();
         taken.map_err(|refusal| refusal.number())
     }
 
     pub fn give(&mut self, channel: u32, byte: u8) -> u32 {
         let (m, mem, jou) = (&mut self.m, &mut self.mem, &mut self.jou);
-        number(&self.emulator.give(m, mem, jou, channel, byte))
+        let answer = self.emulator.give(m, mem, jou, channel, byte);
+        self.answer(answer)
     }
 
     pub fn event(&mut self) -> u32 {
-        number(
-            &self
-                .emulator
-                .event(&mut self.m, &mut self.mem, &mut self.jou),
-        )
+        let (m, mem, jou) = (&mut self.m, &mut self.mem, &mut self.jou);
+        let answer = self.emulator.event(m, mem, jou);
+        self.answer(answer)
     }
 
     pub fn undo(&mut self) -> u32 {
-        number(&self.emulator.undo(&mut self.m, &mut self.mem, &self.jou))
+        let answer = self.emulator.undo(&mut self.m, &mut self.mem, &self.jou);
+        self.answer(answer)
     }
 
     pub fn clear(&mut self) -> u32 {
-        number(&self.emulator.clear(&mut self.m, &self.mem, &self.jou))
+        let answer = self.emulator.clear(&mut self.m, &self.mem, &self.jou);
+        self.answer(answer)
     }
 
     pub fn size(&mut self, words: usize) -> &mut Rig {
