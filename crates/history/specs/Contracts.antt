@@ -84,6 +84,10 @@ part r = numbered (r .answer) .1
 abbrev pub address : Reply → ℕ
 address r = numbered (r .answer) .2
 
+-- number, part and address of a reply's answer (01, Answers by number; 02, No. 1; DECISIONS 58)
+abbrev pub refusal : Reply → ℕ × ℕ × ℕ
+refusal r = numbered (r .answer)
+
 -- byte 0, and machine, memory and journal as before the call (01, Answers by number)
 pub record Unchanged (m : Machine) (mem j : List ℕ) (r : Reply) (mem′ j′ : List ℕ) : Type 0 where
   pub byte : r .byte ≡ 0
