@@ -28,11 +28,13 @@ module _ (m : Machine) (mem j : List ℕ) (r : Reply) (mem' j' : List ℕ) (k : 
       rw (d, ← e, ← n, no-eq z)
 
 pub run-full :
-    (m : Machine) (mem j : List ℕ) (s : ℕ) →
+    (m : Machine) (mem j : List ℕ) (k : ℕ × ℕ × ℕ) →
+    k ≡ (0, 0, 0) →
+    (s : ℕ) →
     100 ≤ s →
-    record { machine = m; steps = s; refusal = 0; part = 0; address = 0; memory = mem; journal = j } ≡ run (100 - s) s m mem j
+    record { machine = m; steps = s; refusal = k .0; part = k .1; address = k .2; memory = mem; journal = j } ≡ run (100 - s) s m mem j
 unfolding run
-run-full m mem j s h = let d : 100 - s ≡ 0 = omega arith in rw d
+run-full m mem j k z s h = let d : 100 - s ≡ 0 = omega arith in rw (d, z)
 
 -- a fresh machine: from code, mem and j to the reply r and the lent words mem' and j'; k has the numbers of the answer
 module _ (code mem j : List ℕ) (r : Reply) (mem' j' : List ℕ) (k : ℕ × ℕ × ℕ) (e : outcomeOf r mem' j' ≡ fresh code mem j) (n : k ≡ numbered (r .answer)) where

@@ -20,20 +20,20 @@ loop-holds c = (refl, omega arith, refl, refl)
 
 returns : tie.Need-returns Inv-loop μ-loop
 returns c =
-    let s = c .before .before .before .before .before .before .before in
+    let s = c .before .before .before .before .before .before .before .before in
     let l = s .before .before .before .before .loop in
-    run-end (l .machine) (l .mem) (l .journal) (s .step .result) _ _ (numbersOf (c .before .before .refusal-of .result)) (s .step .ensures) (c .before .before .refusal-of .ensures) (l .steps) (omega arith) (c .if1 .taken) ∙ l .inv .0
+    run-end (l .machine) (l .mem) (l .journal) (s .step .result) _ _ (numbersOf (c .before .before .before .refusal-of .result)) (s .step .ensures) (c .before .before .before .refusal-of .ensures) (l .steps) (omega arith) (c .if1 .taken) ∙ l .inv .0
 
 loop-again : tie.Need-loop-again Inv-loop μ-loop
 loop-again c =
-    let s = c .before .before .before .before .before .before .before in
+    let s = c .before .before .before .before .before .before .before .before in
     let l = s .before .before .before .before .loop in
-    (run-on (l .machine) (l .mem) (l .journal) (s .step .result) _ _ (numbersOf (c .before .before .refusal-of .result)) (s .step .ensures) (c .before .before .refusal-of .ensures) (l .steps) (omega arith) (c .if1 .left) ∙ l .inv .0, omega arith, search needs, search needs)
+    (run-on (l .machine) (l .mem) (l .journal) (s .step .result) _ _ (numbersOf (c .before .before .before .refusal-of .result)) (s .step .ensures) (c .before .before .before .refusal-of .ensures) (l .steps) (omega arith) (c .if1 .left) ∙ l .inv .0, omega arith, search needs, search needs)
 
 returns-2 : tie.Need-returns-2 Inv-loop μ-loop
 returns-2 c =
-    let l = c .before .loop in
-    run-full (l .machine) (l .mem) (l .journal) (l .steps) (omega arith) ∙ l .inv .0
+    let l = c .before .before .loop in
+    run-full (l .machine) (l .mem) (l .journal) (numbersOf (c .plain .result)) (c .plain .ensures) (l .steps) (omega arith) ∙ l .inv .0
 
 pub run-spec : {M : Type 1} → statement M
 run-spec =
@@ -46,5 +46,5 @@ run-spec =
     returns
     (λ c. search needs) (λ c. search needs)
     loop-again
-    (λ c. search needs) (λ c. search needs)
+    (λ c κs. search needs) (λ c. search needs) (λ c. search needs)
     returns-2)

@@ -7,7 +7,7 @@ use Rattle.t414_run.proofs.run_code.Tie as tie
 
 returns : tie.Need-returns
 returns c =
-    let n = c .before in
+    let n = c .before .before in
     let f = n .before .before .before .before .before .before in
     let a = f .before .before .before .before .before .before .args in
     program-end (a .code .now) (a .mem .now) (a .journal .now) (f .fresh .result) _ _ (numbersOf (n .refusal-of .result)) (f .fresh .ensures) (n .refusal-of .ensures) (c .if1 .taken)
@@ -16,7 +16,7 @@ returns-2 : tie.Need-returns-2
 returns-2 c =
     let r = c .before .before .before .before in
     let i = r .before .before .before in
-    let n = i .before in
+    let n = i .before .before in
     let f = n .before .before .before .before .before .before in
     let a = f .before .before .before .before .before .before .args in
     r .run .ensures ∙ program-on (a .code .now) (a .mem .now) (a .journal .now) (f .fresh .result) _ _ (numbersOf (n .refusal-of .result)) (f .fresh .ensures) (n .refusal-of .ensures) (i .if1 .left)
