@@ -68,13 +68,8 @@ module _ (s : Whole) where
 
       accepted : Outcome
       accepted =
-          record {
-            answer = 0;
-            byte = byte;
-            machine = machineOf (k .regs) (s .machine .depth + 1) full;
-            memory = stores (s .memory) (k .stored);
-            journal = sets (s .journal) (s .machine .used) entry;
-          }
+          calls.accepted byte (machineOf (k .regs) (s .machine .depth + 1) full) (stores (s .memory) (k .stored))
+          (sets (s .journal) (s .machine .used) entry)
 
       by-room : (t : Bool) → push (view s) after-work entry byte t ≡ told (pick t (no 12) accepted)
       by-room true = refl
@@ -82,7 +77,7 @@ module _ (s : Whole) where
 
       by-answer : (t : Bool) → eqb (k .answer) 0 ≡ t
           → settle (view s) (pick t (generic.accepted after-work entry byte) (generic.refused (k .answer)))
-          ≡ told (pick t (pick (ltb (length (s .journal)) full) (no 12) accepted) (no (k .answer)))
+          ≡ told (pick t (pick (ltb (length (s .journal)) full) (no 12) accepted) (calls.refusedAt (k .answer) (k .kind) (k .address) (s .machine) (s .memory) (s .journal)))
       by-answer true e = rw (length-record (s .memory) (s .machine .regs) ks h) (by-room (ltb (length (s .journal)) full))
       by-answer false e = rw e
 
@@ -102,14 +97,7 @@ module _ (s : Whole) where
       start = lastStart (s .journal) (s .machine .used)
 
       back : Outcome
-      back =
-          record {
-            answer = 0;
-            byte = 0;
-            machine = machineOf regs (s .machine .depth - 1) start;
-            memory = writeBack (s .memory) pairs;
-            journal = s .journal;
-          }
+      back = calls.accepted 0 (machineOf regs (s .machine .depth - 1) start) (writeBack (s .memory) pairs) (s .journal)
 
       go : (p q r : Bool)
           → undoing (view s) (pick q none (pick r none (some (record { regs = regs; mem = writeBack (s .memory) pairs }, start)))) p

@@ -23,8 +23,11 @@ pub record Counts (depth used : ℕ) (o : Outcome) : Type 0 where
   pub counts : o .answer ≡ 0 → (o .machine .depth ≡ depth) × (o .machine .used ≡ used)
 
 module _ (d u : ℕ) where
+  counts-refusedAt : (n part address : ℕ) → (n ≡ 0 → ⊥) → (m : Machine) (mem j : List ℕ) → Counts d u (rules.refusedAt n part address m mem j)
+  counts-refusedAt n part address h m mem j = record { counts = λ e. absurd (h e) }
+
   counts-refused : (n : ℕ) → (n ≡ 0 → ⊥) → (m : Machine) (mem j : List ℕ) → Counts d u (rules.refused n m mem j)
-  counts-refused n h m mem j = record { counts = λ e. absurd (h e) }
+  counts-refused n h m mem j = counts-refusedAt n 0 0 h m mem j
 
   counts-checked : (bad : Bool) (m : Machine) (mem j : List ℕ) (o : Outcome) → Counts d u o → Counts d u (checked bad m mem j o)
   unfolding checked
@@ -43,7 +46,7 @@ module _ (m : Machine) (mem j : List ℕ) where
   counts-settled byte w =
       cases-eq (w .answer) 0
       (λ e. rw (yes-eq e) (on-lt (Adds w) _ _ (counts-refused _ _ 12 (λ z. omega (arith, z)) m mem j) (record { counts = λ z. (refl, refl) })))
-      (λ e. rw (no-eq e) (counts-refused _ _ (w .answer) e m mem j))
+      (λ e. rw (no-eq e) (counts-refusedAt _ _ (w .answer) (w .kind) (w .address) e m mem j))
 
   -- one record less
   abbrev pub Drops : Outcome → Type 0

@@ -3,7 +3,7 @@
 use mathlib.Core.Path.{_≡_, ap, _∙_}
 use mathlib.Core.List.{List}
 use Prim.Native.Nat.{ℕ}
-use Rattle.rules.specs.Calls.{Outcome, outcomeOf, refused, noMachine}
+use Rattle.rules.specs.Calls.{Outcome, outcomeOf, refusedAt, noMachine}
 use Rattle.rules.specs.declared.Machine.{Machine}
 use Rattle.rules.specs.declared.Reply.{Reply}
 use Rattle.laws.specs.Calls.{Refusing}
@@ -13,7 +13,7 @@ use Rattle.history.specs.Contracts.{FreshContract, StepContract, TickCon
 unchanged : (m : Machine) (mem j : List ℕ) (o : Outcome) → Refusing m mem j o → (r : Reply) (mem′ j′ : List ℕ) → outcomeOf r mem′ j′ ≡ o
     → (number r ≡ 0 → ⊥) → Unchanged m mem j r mem′ j′
 unchanged m mem j o k r mem′ j′ e h =
-    let same : outcomeOf r mem′ j′ ≡ refused (o .answer) m mem j = e ∙ k .same (λ z. h (ap (λ (x : Outcome). x .answer) e ∙ z)) in
+    let same : outcomeOf r mem′ j′ ≡ refusedAt (o .answer) (o .part) (o .address) m mem j = e ∙ k .same (λ z. h (ap (λ (x : Outcome). x .answer) e ∙ z)) in
     record {
       byte = ap (λ (x : Outcome). x .byte) same;
       registers = ap (λ (x : Outcome). x .machine .regs) same;

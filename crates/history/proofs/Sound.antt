@@ -16,7 +16,8 @@ use Rattle.rules.specs.Work.{Work}
 use Rattle.rules.specs.Journal.{recordLength, recordOf, boundsBad}
 use Rattle.rules.specs.Calls.{memorySizeBad, journalSizeBad}
 use Rattle.rules.proofs.Tests.{no-lt}
-use Rattle.laws.proofs.Fine.{Fine, Known, fine-begin}
+use Rattle.laws.specs.Answers.{Known}
+use Rattle.laws.proofs.Fine.{Fine, fine-begin, turns-known}
 use Rattle.laws.proofs.FineLinks.{fine-tick, fine-take, fine-give, fine-event}
 use Rattle.laws.proofs.FineStep.{fine-step}
 use Rattle.laws.proofs.Stores.{length-stores}
@@ -31,11 +32,11 @@ abbrev pub Ok : Plain → Type 0
 Ok x = length (x .regs) ≡ registers
 
 pub fine-work : (c : Call) (x : Plain) → Ok x → Fine Known (work c x)
-fine-work step x h = fine-step (x .mem) (λ k a z kind address. omega arith) (λ k a z kind address. omega arith) (λ k a z kind address. omega arith) (λ k a z kind address. omega arith) (fine-begin (x .regs) h)
+fine-work step x h = fine-step (x .mem) (turns-known _ (omega arith)) (turns-known _ (omega arith)) (turns-known _ (omega arith)) (turns-known _ (omega arith)) (turns-known _ (omega arith)) (fine-begin (x .regs) h)
 fine-work tick x h = fine-tick (fine-begin (x .regs) h)
-fine-work (spec.take c) x h = fine-take (x .mem) c (λ k a z kind address. omega arith) (fine-begin (x .regs) h)
-fine-work (give c byte) x h = fine-give (x .mem) c byte (λ k a z kind address. omega arith) (fine-begin (x .regs) h)
-fine-work event x h = fine-event (λ k a z kind address. omega arith) (fine-begin (x .regs) h)
+fine-work (spec.take c) x h = fine-take (x .mem) c (turns-known _ (omega arith)) (fine-begin (x .regs) h)
+fine-work (give c byte) x h = fine-give (x .mem) c byte (turns-known _ (omega arith)) (fine-begin (x .regs) h)
+fine-work event x h = fine-event (turns-known _ (omega arith)) (fine-begin (x .regs) h)
 
 -- the parts of an accepted effect
 module _ (x y : Plain) (w : List ℕ) (b byte : ℕ) (k : Work) (e : effect x byte k ≡ accepted y w b) where
@@ -97,7 +98,7 @@ pub sound : Laws t414 Ok
 unfolding guard
 sound =
     record {
-      keeps = λ c x y w b h e. rw (effect-is x y w b (byteOf c x) (work c x) e .0) (fine-work c x h .count);
+      keeps = λ c x y w b h e. rw (effect-is x y w b (byteOf c x) (work c x) e .0) (fine-work c x h .count .0);
       back = λ c x y w b h e front j t r.
           let q = effect-is x y w b (byteOf c x) (work c x) e in
           rw (q .0, q .1) (unrecord-last x (work c x) h front j (rw (q .1) at t));

@@ -1,15 +1,15 @@
--- One answer only: two results that meet the contract of a public function from the same inputs are the same in answer, byte, registers, depth,
--- used and every lent word. And some result meets the contract.
+-- One answer only: two results that meet the contract of a public function from the same inputs are the same in answer (number, part and address),
+-- byte, registers, depth, used and every lent word. And some result meets the contract.
 use mathlib.Core.Path.{_≡_, ap}
 use mathlib.Core.List.{List}
-use Prim.Native.Nat.{ℕ, _≤_}
+use Prim.Native.Nat.{ℕ}
 use lib.ListN.{length}
 use Rattle.rules.specs.Registers.{registers}
-use Rattle.rules.specs.Calls.{numberOf, Outcome, outcomeOf}
+use Rattle.rules.specs.Calls.{Outcome, outcomeOf}
 use Rattle.rules.specs.Calls as rules
 use Rattle.rules.specs.declared.Machine.{Machine}
 use Rattle.rules.specs.declared.Reply.{Reply}
-use Rattle.laws.specs.Answers.{answerOf}
+use Rattle.laws.specs.Answers.{answerOf, Known}
 use Rattle.laws.proofs.Unique.{one-outcome, number-answer}
 use Rattle.laws.proofs.Calls.{kept-step, kept-tick, kept-take, kept-give, kept-event, kept-undo, kept-clear, kept-fresh}
 use Rattle.history.specs.Contracts.{FreshContract, StepContract, TickContract, TakeContract, GiveContract, EventContract, UndoContract, ClearContract, Same, OneAnswer, Total}
@@ -54,23 +54,17 @@ module _ (m : Machine) where
   pub clear-unique : OneAnswer (ClearContract m)
   clear-unique mem j r₁ r₂ mem₁ mem₂ j₁ j₂ a b = same (rules.clear m mem j) r₁ r₂ mem₁ mem₂ j₁ j₂ a b
 
--- ---- some result meets the contract: the rules give no number but 01's
+-- ---- some result meets the contract: the rules give no number but 01's, each with a part and address that an answer can tell
 
 -- the reply of an outcome
 abbrev pub replyOf : Outcome → Reply
-replyOf o = record { machine = o .machine; answer = answerOf (o .answer); byte = o .byte }
+replyOf o = record { machine = o .machine; answer = answerOf (o .answer) (o .part) (o .address); byte = o .byte }
 
-pub told : (o : Outcome) → o .answer ≤ 12 → outcomeOf (replyOf o) (o .memory) (o .journal) ≡ o
-told o h =
-    let n : numberOf (answerOf (o .answer)) ≡ o .answer = number-answer (o .answer) h in
-    let e : _≡_ {A = Outcome} (record {
-      answer = numberOf (answerOf (o .answer));
-      byte = o .byte;
-      machine = o .machine;
-      memory = o .memory;
-      journal = o .journal;
-    }) (record { answer = o .answer; byte = o .byte; machine = o .machine; memory = o .memory; journal = o .journal }) = rw n in
-    e
+pub told : (o : Outcome) → Known (o .answer) (o .part) (o .address) → outcomeOf (replyOf o) (o .memory) (o .journal) ≡ o
+told o k =
+    ap
+    (λ (t : ℕ × ℕ × ℕ). record { answer = t .0; part = t .1; address = t .2; byte = o .byte; machine = o .machine; memory = o .memory; journal = o .journal })
+    (number-answer (o .answer) (o .part) (o .address) k)
 
 pub fresh-total : (code : List ℕ) → Total (FreshContract code)
 fresh-total code mem j =

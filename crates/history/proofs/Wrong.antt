@@ -22,11 +22,12 @@ use Rattle.rules.specs.Links as links
 use Rattle.rules.specs.Operations.{functions, function}
 use Rattle.rules.specs.Step as steps
 use Rattle.rules.specs.Journal.{recordLength, olds, recordOf, boundsBad, lastPairs, lastStart, lastRegs, pairsAt, writeBack, strays}
-use Rattle.rules.specs.Calls.{numberOf, Outcome, outcomeOf, memorySizeBad, journalSizeBad, sizeBad, codeBad, notOutput, notInput, recorded, commitOrRefuse, checked, undone, undoLast, codeWord, freshWord, freshMemory, freshRegs, machineOf, fresh}
+use Rattle.rules.specs.Calls.{numbered, Outcome, outcomeOf, memorySizeBad, journalSizeBad, sizeBad, codeBad, notOutput, notInput, recorded, commitOrRefuse, checked, undone, undoLast, codeWord, freshWord, freshMemory, freshRegs, machineOf, fresh}
 use Rattle.rules.specs.Calls as rules
 use Rattle.rules.specs.declared.Machine.{Machine}
 use Rattle.rules.proofs.Tests.{yes-eq, no-eq, cases-eq}
-use Rattle.laws.specs.Answers.{answerOf}
+use Rattle.laws.specs.Answers.{answerOf, Known}
+use Rattle.laws.proofs.Fine.{proper-refuse}
 use Rattle.laws.proofs.Unique.{number-answer}
 use Rattle.laws.proofs.Calls.{kept-step, kept-fresh}
 use Rattle.history.specs.Machine.{call, undo}
@@ -346,24 +347,18 @@ module _ (F : Functions) (f : MeetsFresh (F .fresh)) where
 
 -- an undo that is accepted and changes nothing
 abbrev idleUndo : Function
-idleUndo m mem j = resultOf (rules.refused 0 m mem j)
+idleUndo m mem j = resultOf (rules.accepted 0 m mem j)
 
 -- the step of the rules where no record stands; else Iptr is moved by one, and a call is counted
 abbrev iptrStep : Function
 iptrStep m mem j =
     resultOf
     (ifEq (m .depth) 0 (rules.step m mem j)
-    (record {
-      answer = 0;
-      byte = 0;
-      machine = machineOf (set (m .regs) iptrReg (getD (m .regs) iptrReg 0 + 1)) (m .depth + 1) (m .used);
-      memory = mem;
-      journal = j;
-    }))
+    (rules.accepted 0 (machineOf (set (m .regs) iptrReg (getD (m .regs) iptrReg 0 + 1)) (m .depth + 1) (m .used)) mem j))
 
 -- a step that answers as the rules do and changes nothing, not even depth and used
 abbrev idleStep : Function
-idleStep m mem j = resultOf (rules.refused (rules.step m mem j .answer) m mem j)
+idleStep m mem j = resultOf (rules.refusedAt (rules.step m mem j .answer) (rules.step m mem j .part) (rules.step m mem j .address) m mem j)
 
 pub wrong-exist : LeavesRegisters idleUndo
     × FirstProperly iptrStep
@@ -375,10 +370,15 @@ wrong-exist = (
   λ m h mem j. refl,
   λ m h mem j e. rw (yes-eq e) (told _ (kept-step m mem j h .known)),
   λ m h mem j e k d. rw (no-eq e) (getD-set-other (m .regs) iptrReg k _ 0 d),
-  λ m h mem j a n. absurd (n (cases-eq (m .depth) 0 (λ e. rw (yes-eq e) (answers-so m h mem j ∙ a)) (λ e. rw (no-eq e) (number-answer 0 (omega arith))))),
+  λ m h mem j a n. absurd (n (cases-eq (m .depth) 0 (λ e. rw (yes-eq e) (answers-so m h mem j ∙ a)) (λ e. rw (no-eq e) (ap (λ (t : ℕ × ℕ × ℕ). t .0) (number-answer 0 0 0 done))))),
   λ m h mem j a. answers-so m h mem j ∙ a,
   λ m h mem j a c. omega (arith, c .0),
 )
   where
-    answers-so : (m : Machine) → length (m .regs) ≡ registers → (mem j : List ℕ) → numberOf (answerOf (rules.step m mem j .answer)) ≡ rules.step m mem j .answer
-    answers-so m h mem j = number-answer (rules.step m mem j .answer) (kept-step m mem j h .known)
+    done : Known 0 0 0
+    done = record { most = omega arith; proper = proper-refuse 0 (λ e. omega (arith, e)) }
+
+    answers-so : (m : Machine) → length (m .regs) ≡ registers → (mem j : List ℕ)
+        → numbered (answerOf (rules.step m mem j .answer) (rules.step m mem j .part) (rules.step m mem j .address)) .0 ≡ rules.step m mem j .answer
+    answers-so m h mem j =
+        ap (λ (t : ℕ × ℕ × ℕ). t .0) (number-answer (rules.step m mem j .answer) (rules.step m mem j .part) (rules.step m mem j .address) (kept-step m mem j h .known))

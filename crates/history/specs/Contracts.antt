@@ -3,7 +3,7 @@
 use mathlib.Core.Path.{_≡_}
 use mathlib.Core.List.{List}
 use Prim.Native.Nat.{ℕ}
-use Rattle.rules.specs.Calls.{numberOf, outcomeOf}
+use Rattle.rules.specs.Calls.{numbered, outcomeOf}
 use Rattle.rules.specs.Calls as rules
 use Rattle.rules.specs.declared.Machine.{Machine}
 use Rattle.rules.specs.declared.Reply.{Reply}
@@ -46,7 +46,8 @@ ClearContract m mem j r mem′ j′ = outcomeOf r mem′ j′ ≡ rules.clear m 
 
 -- ---- properties of contracts, for the theorems
 
--- two results of a call are the same: answer, byte, registers, depth, used and every lent word (01, What the contracts have to say)
+-- two results of a call are the same: answer (number, part and address), byte, registers, depth, used and every lent word
+-- (01, What the contracts have to say; DECISIONS 58)
 pub record Same (r r′ : Reply) (mem mem′ j j′ : List ℕ) : Type 0 where
   pub answer : r .answer ≡ r′ .answer
   pub byte : r .byte ≡ r′ .byte
@@ -73,7 +74,19 @@ Total C = (mem j : List ℕ) → Answered C mem j
 
 -- the number of a reply's answer (01, Answers by number; DECISIONS 45)
 abbrev pub number : Reply → ℕ
-number r = numberOf (r .answer)
+number r = numbered (r .answer) .0
+
+-- the part of a reply's answer: 1 for 10a, 2 for 10b, 3 for 10c, else 0 (02, No. 1; DECISIONS 58)
+abbrev pub part : Reply → ℕ
+part r = numbered (r .answer) .1
+
+-- the byte address of a reply's answer: of the access that was outside memory, else 0 (02, No. 1; DECISIONS 58)
+abbrev pub address : Reply → ℕ
+address r = numbered (r .answer) .2
+
+-- number, part and address of a reply's answer (01, Answers by number; 02, No. 1; DECISIONS 58)
+abbrev pub refusal : Reply → ℕ × ℕ × ℕ
+refusal r = numbered (r .answer)
 
 -- byte 0, and machine, memory and journal as before the call (01, Answers by number)
 pub record Unchanged (m : Machine) (mem j : List ℕ) (r : Reply) (mem′ j′ : List ℕ) : Type 0 where

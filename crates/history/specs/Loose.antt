@@ -4,9 +4,9 @@ use mathlib.Core.Path.{_≡_}
 use mathlib.Core.List.{List}
 use Prim.Native.Nat.{ℕ}
 use lib.ListN.{length}
-use Rattle.rules.specs.Calls.{machineOf}
+use Rattle.rules.specs.Calls.{numbered, machineOf}
 use Rattle.rules.specs.declared.Answer.{Answer}
-use Rattle.history.specs.Contracts.{Contract, Same}
+use Rattle.history.specs.Contracts.{Contract, Same, number, part, address}
 use Rattle.history.specs.Functions.{Result}
 
 -- the contract without the memory after the call: some memory in its place meets the contract (01, What the contracts have to say)
@@ -40,6 +40,16 @@ WithoutByte C mem j r mem′ j′ = (x : ℕ) × C mem j (record { machine = r .
 abbrev pub WithoutAnswer : Contract → Contract
 WithoutAnswer C mem j r mem′ j′ = (x : Answer) × C mem j (record { machine = r .machine; answer = x; byte = r .byte }) mem′ j′
 
+-- without the part of the answer: some answer with the same number and address in its place (02, No. 1; 01, What the contracts have to say)
+abbrev pub WithoutPart : Contract → Contract
+WithoutPart C mem j r mem′ j′ =
+    (x : Answer) × (numbered x .0 ≡ number r) × (numbered x .2 ≡ address r) × C mem j (record { machine = r .machine; answer = x; byte = r .byte }) mem′ j′
+
+-- without the address of the answer: some answer with the same number and part in its place (02, No. 1; 01, What the contracts have to say)
+abbrev pub WithoutAddress : Contract → Contract
+WithoutAddress C mem j r mem′ j′ =
+    (x : Answer) × (numbered x .0 ≡ number r) × (numbered x .1 ≡ part r) × C mem j (record { machine = r .machine; answer = x; byte = r .byte }) mem′ j′
+
 -- two different results meet the contract; their lengths agree, so a function could return either (01, What the contracts have to say)
 pub record TwoResults (C : Contract) (mem j : List ℕ) : Type 0 where
   pub one : Result
@@ -58,3 +68,8 @@ pub record AllNeeded (C : Contract) (mem j : List ℕ) : Type 0 where
   pub used : TwoResults (WithoutUsed C) mem j
   pub byte : TwoResults (WithoutByte C) mem j
   pub answer : TwoResults (WithoutAnswer C) mem j
+
+-- part and address of the answer 10 are needed too; no other answer has them (02, No. 1; DECISIONS 58)
+pub record AccessNeeded (C : Contract) (mem j : List ℕ) : Type 0 where
+  pub part : TwoResults (WithoutPart C) mem j
+  pub address : TwoResults (WithoutAddress C) mem j

@@ -1,5 +1,5 @@
 -- The outcome of a call after the checks: of a plan, an undo, a clear.
-use mathlib.Core.Path.{_≡_, ap}
+use mathlib.Core.Path.{_≡_, sym, subst}
 use mathlib.Core.Bool.{Bool, true, false, _||_}
 use mathlib.Core.List.{List}
 use Prim.Native.Nat.{ℕ, _≤_}
@@ -11,13 +11,14 @@ use Rattle.rules.specs.Work.{Work, begin}
 use Rattle.rules.specs.Links as links
 use Rattle.rules.specs.Step as steps
 use Rattle.rules.specs.Journal.{boundsBad}
-use Rattle.rules.specs.Calls.{Outcome, refused, memorySizeBad, journalSizeBad, sizeBad, clear, machineOf, undo, undoLast}
+use Rattle.rules.specs.Calls.{refused, accepted, memorySizeBad, journalSizeBad, sizeBad, clear, machineOf, undo, undoLast}
 use Rattle.rules.specs.declared.Machine.{Machine}
 use Rattle.rules.proofs.Tests.{yes-eq, no-eq}
-use Rattle.laws.proofs.Fine.{Fine, Known, fine-begin}
+use Rattle.laws.specs.Answers.{Known}
+use Rattle.laws.proofs.Fine.{Fine, fine-begin, turns-known}
 use Rattle.laws.proofs.FineLinks.{fine-take, fine-give, fine-event}
 use Rattle.laws.proofs.FineStep.{fine-step}
-use Rattle.plan.specs.View.{view, answerOf}
+use Rattle.plan.specs.View.{view, answerOf, kindOf, addressOf}
 use Rattle.journal.specs.Checks.{firstBad}
 use Rattle.journal.proofs.Refusing.{passed, fits, bounds-good}
 
@@ -32,25 +33,33 @@ ready badChannel m mem j h =
 
 -- ---- the outcome of a plan
 
-known-of : (regs log : List ℕ) (w : Work) → view regs log ≡ w → Fine Known w → answerOf log ≤ 12
-known-of regs log w e f = omega (arith, ap (λ (x : Work). x .answer) e, f .known)
+-- number, part and address of a log are those of an answer
+abbrev KnownLog : List ℕ → Type 0
+KnownLog log = Known (answerOf log) (kindOf log) (addressOf log)
 
-pub step-known : (old : List ℕ) → length old ≡ registers → (mem : List ℕ) → steps.step mem (begin old) .answer ≤ 12
+-- and so of work
+abbrev KnownWork : Work → Type 0
+KnownWork w = Known (w .answer) (w .kind) (w .address)
+
+known-of : (regs log : List ℕ) (w : Work) → view regs log ≡ w → Fine Known w → KnownLog log
+known-of regs log w e f = subst KnownWork (sym e) (f .known)
+
+pub step-known : (old : List ℕ) → length old ≡ registers → (mem : List ℕ) → KnownWork (steps.step mem (begin old))
 step-known old h mem =
-    omega (arith, fine-step mem (λ k a z kind address. omega arith) (λ k a z kind address. omega arith) (λ k a z kind address. omega arith) (λ k a z kind address. omega arith) (fine-begin old h) .known)
+    fine-step mem (turns-known _ (omega arith)) (turns-known _ (omega arith)) (turns-known _ (omega arith)) (turns-known _ (omega arith)) (turns-known _ (omega arith)) (fine-begin old h) .known
 
 -- old are the registers before the call
 module _ (old : List ℕ) (h : length old ≡ registers) (regs log : List ℕ) where
-  pub event-known : view regs log ≡ links.event (begin old) → answerOf log ≤ 12
-  event-known e = known-of regs log (links.event (begin old)) e (fine-event (λ k a z kind address. omega arith) (fine-begin old h))
+  pub event-known : view regs log ≡ links.event (begin old) → KnownLog log
+  event-known e = known-of regs log (links.event (begin old)) e (fine-event (turns-known _ (omega arith)) (fine-begin old h))
 
-  pub take-known : (mem : List ℕ) (c : ℕ) → view regs log ≡ links.take mem c (begin old) → answerOf log ≤ 12
+  pub take-known : (mem : List ℕ) (c : ℕ) → view regs log ≡ links.take mem c (begin old) → KnownLog log
   take-known mem c e =
-      known-of regs log (links.take mem c (begin old)) e (fine-take mem c (λ k a z kind address. omega arith) (fine-begin old h))
+      known-of regs log (links.take mem c (begin old)) e (fine-take mem c (turns-known _ (omega arith)) (fine-begin old h))
 
-  pub give-known : (mem : List ℕ) (c byte : ℕ) → view regs log ≡ links.give mem c byte (begin old) → answerOf log ≤ 12
+  pub give-known : (mem : List ℕ) (c byte : ℕ) → view regs log ≡ links.give mem c byte (begin old) → KnownLog log
   give-known mem c byte e =
-      known-of regs log (links.give mem c byte (begin old)) e (fine-give mem c byte (λ k a z kind address. omega arith) (fine-begin old h))
+      known-of regs log (links.give mem c byte (begin old)) e (fine-give mem c byte (turns-known _ (omega arith)) (fine-begin old h))
 
 -- ---- undo and clear
 
@@ -70,6 +79,6 @@ module _ (m : Machine) (mem j : List ℕ) where
 
   pub clear-done :
       memorySizeBad (length mem) || journalSizeBad (length j) ≡ false
-      → _≡_ {A = Outcome} (record { answer = 0; byte = 0; machine = machineOf (m .regs) 0 0; memory = mem; journal = j }) (clear m mem j)
+      → accepted 0 (machineOf (m .regs) 0 0) mem j ≡ clear m mem j
   unfolding clear sizeBad
   clear-done h = rw h

@@ -8,6 +8,7 @@ use lib.Dec.{ltb, leb}
 use lib.ListN.{length}
 use borrow.Author.Tests.{lt-ltb, le-ltb, ltb-false, leb-false}
 use Rattle.rules.specs.Tests.{pick}
+use Rattle.rules.specs.Work.{outside}
 use Rattle.rules.specs.Journal.{boundsBad}
 use Rattle.rules.specs.Calls.{Outcome, refused, memorySizeBad, journalSizeBad, sizeBad, checked, notInput}
 use Rattle.rules.specs.declared.Machine.{Machine}
@@ -84,7 +85,7 @@ module _ (badChannel : Bool) (n l depth used : ℕ) where
 abbrev pub first : Bool → Bool → Bool → ℕ
 first x y z = pick x 1 (pick y 3 (pick z 4 0))
 
-first-known : (x y z : Bool) → first x y z ≤ 12
+first-known : (x y z : Bool) → (first x y z ≤ 12) × (first x y z ≡ outside → ⊥)
 first-known true y z = omega arith
 first-known false true z = omega arith
 first-known false false true = omega arith
@@ -111,7 +112,7 @@ module _ (badChannel : Bool) (m : Machine) (mem j : List ℕ) where
   abbrev number : ℕ
   number = firstBad badChannel (length mem) (length j) (m .depth) (m .used)
 
-  pub number-known : number ≤ 12
+  pub number-known : (number ≤ 12) × (number ≡ outside → ⊥)
   unfolding firstBad
   number-known =
       first-known (memorySizeBad (length mem) || journalSizeBad (length j)) badChannel (boundsBad (length j) (m .depth) (m .used))

@@ -9,17 +9,13 @@ use lib.Seq.{sets, sets-eq, length-sets, length-take-le, take-at}
 use Rattle.rules.specs.Registers.{registers}
 use Rattle.rules.specs.Memory.{Store, stores, touched}
 use Rattle.rules.specs.Journal.{recordLength, recordOf, boundsBad, lastPairs, lastStart, lastRegs, pairsAt, writeBack, strays}
-use Rattle.rules.specs.Calls.{Outcome, machineOf, sizeBad, checked, recorded, undone, undoLast, undo}
+use Rattle.rules.specs.Calls.{Outcome, accepted, machineOf, sizeBad, checked, recorded, undone, undoLast, undo}
 use Rattle.rules.specs.declared.Machine.{Machine}
 use Rattle.rules.proofs.Tests.{yes-lt, no-lt, no-eq, cases-lt}
 use Rattle.laws.proofs.Stores.{length-stores}
 use Rattle.laws.proofs.Touched.{touched-below, outside-touched, length-record}
 use Rattle.history.proofs.Records.{pairsOf, strays-none, written-back, last-pairs, last-start, last-regs, last-read}
 use Rattle.journal_record.proofs.JournalBounds.{bounds-good, bounds-is}
-
--- the accepted outcome with machine m, memory mem and journal j
-abbrev pub givenBack : Machine → List ℕ → List ℕ → Outcome
-givenBack m mem j = record { answer = 0; byte = 0; machine = m; memory = mem; journal = j }
 
 module _
     (m : Machine) (mem j : List ℕ) (byte : ℕ) (regs : List ℕ) (ss : List Store) (lr : length (m .regs) ≡ registers)
@@ -79,7 +75,7 @@ module _
         let f = bounds-good (length j) (m .depth) (m .used) bounds in
         rw (length-sets j (m .used) rec) (bounds-is (length j) (m .depth + 1) used′ fit (omega arith))
 
-    back : undo (machineOf regs (m .depth + 1) used′) mem′ j′ ≡ givenBack m mem j′
+    back : undo (machineOf regs (m .depth + 1) used′) mem′ j′ ≡ accepted 0 m mem j′
     unfolding undo checked undoLast undone
     back =
         let deep : m .depth + 1 ≡ 0 → ⊥ = λ e. omega arith in
@@ -90,7 +86,7 @@ module _
   abbrev done : Outcome
   done = recorded m mem j byte regs ks mem′
 
-  pub undo-recorded : done .answer ≡ 0 → undo (done .machine) (done .memory) (done .journal) ≡ givenBack m mem (done .journal)
+  pub undo-recorded : done .answer ≡ 0 → undo (done .machine) (done .memory) (done .journal) ≡ accepted 0 m mem (done .journal)
   unfolding recorded
   undo-recorded a =
       cases-lt (length j) used′

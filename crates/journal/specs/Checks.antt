@@ -5,7 +5,7 @@ use Rattle.rules.specs.Tests.{pick}
 use Rattle.rules.specs.Journal.{boundsBad}
 use mathlib.Core.Path.{_≡_}
 use mathlib.Core.List.{List}
-use Rattle.rules.specs.Calls.{outcomeOf, refused, memorySizeBad, journalSizeBad}
+use Rattle.rules.specs.Calls.{outcomeOf, refusedAt, refused, memorySizeBad, journalSizeBad}
 use Rattle.rules.specs.declared.Machine.{Machine}
 use Rattle.rules.specs.declared.Reply.{Reply}
 
@@ -14,6 +14,11 @@ unfoldable pub firstBad : Bool → ℕ → ℕ → ℕ → ℕ → ℕ
 firstBad badChannel memory journal depth used =
     pick (memorySizeBad memory || journalSizeBad journal) 1 (pick badChannel 3 (pick (boundsBad journal depth used) 4 0))
 
--- the reply of a refused call: the machine unchanged, byte 0; for any memory and journal (01, Answers by number)
+-- the reply of a call refused with a part and an address: the machine unchanged, byte 0; for any memory and journal
+-- (01, Answers by number; 02, No. 1)
+abbrev pub RefusalAt : ℕ → ℕ → ℕ → Machine → Reply → Type 0
+RefusalAt number part address m r = (mem j : List ℕ) → outcomeOf r mem j ≡ refusedAt number part address m mem j
+
+-- the reply of a call refused without an access (01, Answers by number)
 abbrev pub Refusal : ℕ → Machine → Reply → Type 0
 Refusal number m r = (mem j : List ℕ) → outcomeOf r mem j ≡ refused number m mem j

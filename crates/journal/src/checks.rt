@@ -1,14 +1,16 @@
-// The checks before a call works: Size, BadChannel, JournalBad, in the order of 01's table. And a refusal by its number.
+// The checks before a call works: Size, BadChannel, JournalBad, in the order of 01's table. And a refusal by its number, part and address.
 use journal_record::bounds;
 use rules::Answer;
 use rules::Machine;
 use rules::Reply;
+use rules::names::*;
 ghost use mathlib.Core.Path.{_≡_};
 ghost use mathlib.Core.Bool.{_||_};
 ghost use Prim.Native.Nat.{_≤_};
+ghost use Rattle.rules.specs.Work.{outside};
 ghost use Rattle.rules.specs.Calls as calls;
-ghost use Rattle.rules.specs.Calls.{numberOf};
-ghost use Rattle.journal.specs.Checks.{Refusal, firstBad};
+ghost use Rattle.laws.specs.Answers.{outsideAnswer, answerOf, Known};
+ghost use Rattle.journal.specs.Checks.{Refusal, RefusalAt, firstBad};
 
 // Tests for Size: memory is not 64 to 16,384 words, or the journal is over 65,536.
 pub fn size_bad(memory: usize, journal: usize) -> bool
@@ -56,10 +58,23 @@ pub fn first_bad(wrong: bool, memory: usize, journal: usize, depth: usize, used:
     0
 }
 
-// Returns the answer with 01's number.
-fn answer_of(number: u32) -> Answer
+// Returns the answer of an access outside memory: 10a, 10b or 10c by its part, with the address.
+fn outside_of(part: u32, address: u32) -> Answer
+    ensures { λ r. ⌜ r ≡ outsideAnswer part address ⌝ }
+{
+    if part == KIND_FETCH {
+        return Answer::OutsideFetch(address);
+    }
+    if part == KIND_LOAD {
+        return Answer::OutsideLoad(address);
+    }
+    Answer::OutsideStore(address)
+}
+
+// Returns the answer with 01's number; of 10 that of its part, with the address.
+fn answer_of(number: u32, part: u32, address: u32) -> Answer
     requires { ⌜ number ≤ 12 ⌝ }
-    ensures { λ r. ⌜ numberOf r ≡ number ⌝ }
+    ensures { λ r. ⌜ r ≡ answerOf number part address ⌝ }
 {
     match number {
         0 => Answer::Done,
@@ -72,18 +87,26 @@ fn answer_of(number: u32) -> Answer
         7 => Answer::Idle,
         8 => Answer::NotReady,
         9 => Answer::Unlisted,
-        10 => Answer::Outside,
+        10 => outside_of(part, address),
         11 => Answer::Stop,
         _ => Answer::JournalFull,
     }
 }
 
-// Builds the reply of a call refused with a number: the machine unchanged, byte 0.
+// Builds the reply of a call refused with a number, without an access: the machine unchanged, byte 0.
 pub fn refuse(m: Machine, number: u32) -> Reply
-    requires { ⌜ number ≤ 12 ⌝ }
+    requires { ⌜ (number ≤ 12) × (number ≡ outside → ⊥) ⌝ }
     ensures { λ r. ⌜ Refusal number m r ⌝ }
 {
-    let answer = answer_of(number);
+    refuse_at(m, number, 0, 0)
+}
+
+// Builds the reply of a call refused with a number, a part and an address: the machine unchanged, byte 0.
+pub fn refuse_at(m: Machine, number: u32, part: u32, address: u32) -> Reply
+    requires { ⌜ Known number part address ⌝ }
+    ensures { λ r. ⌜ RefusalAt number part address m r ⌝ }
+{
+    let answer = answer_of(number, part, address);
     Reply {
         machine: m,
         answer,

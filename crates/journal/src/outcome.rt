@@ -1,5 +1,5 @@
-// The outcome of a plan after the checks: a refusal by its number, or a commit.
-use crate::checks::refuse;
+// The outcome of a plan after the checks: its refusal, or a commit.
+use crate::checks::refuse_at;
 use crate::commit;
 use journal_record::bounds::EMPTY_RECORD;
 use journal_record::record::put_tail;
@@ -14,9 +14,10 @@ ghost use Prim.Native.Nat.{_≤_};
 ghost use lib.ListN.{length};
 ghost use Rattle.rules.specs.Journal.{boundsBad};
 ghost use Rattle.rules.specs.Calls.{outcomeOf, commitOrRefuse};
-ghost use Rattle.plan.specs.View.{view, answerOf, Room};
+ghost use Rattle.laws.specs.Answers.{Known};
+ghost use Rattle.plan.specs.View.{view, answerOf, kindOf, addressOf, Room};
 
-// Commits a plan and ends its record, or refuses with its number. For take, give and event; step_engine does the same for a step.
+// Commits a plan and ends its record, or refuses with its number, part and address. For take, give and event; step_engine does the same for a step.
 pub fn commit_or_refuse(
     m: Machine,
     regs: &[u32; REGISTERS],
@@ -25,14 +26,14 @@ pub fn commit_or_refuse(
     mem: &mut [u32],
     journal: &mut [u32],
 ) -> Reply
-    requires { ⌜ (answerOf (now log) ≤ 12) × Room 0 (now log) × (length (now mem) ≤ 16384) × (length (now journal) ≤ 65536) × (boundsBad (length (now journal)) (m .depth) (m .used) ≡ false) ⌝ }
+    requires { ⌜ Known (answerOf (now log)) (kindOf (now log)) (addressOf (now log)) × Room 0 (now log) × (length (now mem) ≤ 16384) × (length (now journal) ≤ 65536) × (boundsBad (length (now journal)) (m .depth) (m .used) ≡ false) ⌝ }
     ensures { λ r. ⌜ outcomeOf r (now (mem .exit)) (now (journal .exit)) ≡ commitOrRefuse m (now (mem .entry)) (now (journal .entry)) byte (view (now (regs .entry)) (now (log .entry))) ⌝ }
 {
     let used = m.used;
     let committed = commit::commit(log, used, mem, journal);
     let number = committed.number;
     if number != 0 {
-        return refuse(m, number);
+        return refuse_at(m, number, committed.part, committed.address);
     }
     let count = committed.count;
     let old = m.regs;

@@ -8,13 +8,13 @@ use lib.ListN.{length, getD, take, drop}
 use lib.Seq.{sets}
 use Rattle.rules.specs.Registers.{registers}
 use Rattle.rules.specs.Journal.{recordLength, recordOf, lastPairs, lastStart, lastRegs, pairsAt, writeBack, strays}
-use Rattle.rules.specs.Calls.{numberOf, outcomeOf, refused, machineOf, recorded, undone, undoLast}
+use Rattle.rules.specs.Calls.{numbered, outcomeOf, refused, machineOf, recorded, undone, undoLast}
 use Rattle.rules.specs.declared.Machine.{Machine}
 use Rattle.rules.specs.declared.Answer.the-variants.{Done}
 use Rattle.rules.proofs.Tests.{yes-lt, no-lt, yes, no}
 
-pub number-done : numberOf Done ≡ 0
-unfolding numberOf
+pub number-done : numbered Done ≡ (0, 0, 0)
+unfolding numbered
 number-done = refl
 
 -- ---- commit

@@ -11,7 +11,7 @@ use lib.ListN.{length, getD, set, drop-of-length-le, List·getD-eq-default}
 use lib.Seq.{sets, sets-eq}
 use borrow.Author.Tests.{lt-ltb, le-ltb, le-leb, lt-leb, eq-eqb, ne-eqb, leb-false}
 use Rattle.rules.specs.Scheduling.{memStartWord}
-use Rattle.rules.specs.Calls.{Outcome, refused, machineOf, memorySizeBad, journalSizeBad, sizeBad, codeBad, codeWords, freshWord, freshMemory, freshRegs, noMachine, fresh}
+use Rattle.rules.specs.Calls.{refused, accepted, machineOf, memorySizeBad, journalSizeBad, sizeBad, codeBad, codeWords, freshWord, freshMemory, freshRegs, noMachine, fresh}
 
 -- ---- the code's size
 
@@ -85,6 +85,6 @@ module _ (code mem j : List ℕ) where
 
     pub fresh-done :
         codeBad (length mem) (length code) ≡ false
-        → _≡_ {A = Outcome} (record { answer = 0; byte = 0; machine = machineOf (freshRegs (length code)) 0 0; memory = freshMemory code 0 (length mem); journal = j }) (fresh code mem j)
+        → accepted 0 (machineOf (freshRegs (length code)) 0 0) (freshMemory code 0 (length mem)) j ≡ fresh code mem j
     unfolding fresh sizeBad
     fresh-done k = rw (h, k)

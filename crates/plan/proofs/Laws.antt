@@ -6,7 +6,7 @@ use native.Mathlib.Omega.{arith}
 use lib.ListN.{length, getD, set, take, drop, length-take, length-drop}
 use lib.Seq.{getD-take, getD-drop, take-set-le, take-set-lt, drop-set-add, drop-set-lt}
 use Rattle.rules.specs.Memory.{Store, word, bytes}
-use Rattle.rules.specs.Work.{Work, begin}
+use Rattle.rules.specs.Work.{Work, begin, untraced}
 use Rattle.plan.proofs.Logged.{logged-more, logged-move, logged-plain}
 use Rattle.plan.specs.View.{logged, storesOf, view, answerOf, kindOf, addressOf, countOf, indicesOf, valuesOf, Room, Grown, Ended}
 
@@ -38,11 +38,11 @@ abbrev pub refusing : ℕ → ℕ → ℕ → List ℕ → List ℕ
 refusing n k a g = set (set (set g 5 n) 6 k) 7 a
 
 pub refuse-view : (n k a : ℕ) (g : List ℕ) → 8 ≤ length g
-    → ((r : List ℕ) → view r (refusing n k a g) ≡ record { regs = r; stored = storesOf g; answer = n; kind = k; address = a })
+    → ((r : List ℕ) → view r (refusing n k a g) ≡ record { regs = r; stored = storesOf g; answer = n; kind = k; address = a; trace = untraced })
     × Grown 0 g (refusing n k a g)
 unfolding storesOf
 refuse-view n k x g h =
-    eight (λ (g : List ℕ). ((r : List ℕ) → view r (refusing n k x g) ≡ record { regs = r; stored = storesOf g; answer = n; kind = k; address = x })
+    eight (λ (g : List ℕ). ((r : List ℕ) → view r (refusing n k x g) ≡ record { regs = r; stored = storesOf g; answer = n; kind = k; address = x; trace = untraced })
     × Grown 0 g (refusing n k x g))
     (λ a b c d e f q l t. (λ r. refl, (refl, refl, omega arith, omega arith))) g h
 
@@ -52,7 +52,7 @@ appending i v g = set (set (set g (8 + getD g 0 0) i) (24 + getD g 0 0) v) 0 (ge
 
 -- a view with one store more
 abbrev pub storing : Store → List ℕ → List ℕ → Work
-storing s r g = record { regs = r; stored = storesOf g ++ (s ∷ []); answer = answerOf g; kind = kindOf g; address = addressOf g }
+storing s r g = record { regs = r; stored = storesOf g ++ (s ∷ []); answer = answerOf g; kind = kindOf g; address = addressOf g; trace = untraced }
 
 pub append-view : (i v : ℕ) (g : List ℕ) → length g ≡ 40 → Room 1 g
     → ((r : List ℕ) → view r (appending i v g) ≡ storing (word i v) r g) × Grown 1 g (appending i v g)

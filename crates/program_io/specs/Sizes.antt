@@ -12,7 +12,7 @@ caseHead = 24 + machineSize
 
 -- bytes of a response before its memory (DECISIONS 53; docs/TESTING.md, The batch protocol)
 abbrev pub responseHead : ℕ
-responseHead = 8 + machineSize
+responseHead = 12 + machineSize
 
 -- the most words of memory in a case: more than 16,384, so that 1 Size can be asked (01, Answers by number; docs/TESTING.md)
 abbrev pub mostWords : ℕ

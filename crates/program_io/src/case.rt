@@ -25,7 +25,7 @@ pub(crate) const NUMBERS: usize = 20;
 // The bytes of a case before its memory, of a response before its memory, and of the longest response.
 const CASE_HEAD: usize = 24 + 16 + 4 * rules::REGISTERS;
 
-const RESPONSE_HEAD: usize = 8 + 16 + 4 * rules::REGISTERS;
+const RESPONSE_HEAD: usize = 12 + 16 + 4 * rules::REGISTERS;
 
 pub(crate) const MOST_RESPONSE: usize = RESPONSE_HEAD + 4 * WORDS + 4 * JOURNAL;
 
@@ -228,16 +228,18 @@ fn give_reply(r: Reply, output: &mut [u8], out: usize)
     let answer = r.answer;
     let m = r.machine;
     let regs = m.regs;
+    let refusal = answers::refusal_of(answer);
     let head = [
-        answers::number_of(answer),
+        answers::one_word(refusal),
         r.byte as u32,
+        refusal.address,
         (m.depth % 4294967296) as u32,
         (m.depth >> 32) as u32,
         (m.used % 4294967296) as u32,
         (m.used >> 32) as u32,
     ];
     give_words(&head, output, out);
-    give_words(&regs, output, out + 24);
+    give_words(&regs, output, out + 28);
 }
 
 // Writes a response at byte out of output; returns its end.

@@ -134,7 +134,7 @@ pub fn plan_and_commit(
     journal: &mut [u32],
 ) -> Committed
     requires { ⌜ (now regs ≡ old) × (length (now mem) ≤ 16384) × (length (now journal) ≤ 65536) × (used ≤ length (now journal)) ⌝ }
-    ensures { λ r. ⌜ (effectOf r (now (mem .exit)) (now (journal .exit)) ≡ committed (recordOf (now (mem .entry)) old) used (now (mem .entry)) (now (journal .entry)) (step.step (now (mem .entry)) (begin old) .answer) (step.step (now (mem .entry)) (begin old) .stored)) × (now (regs .exit) ≡ step.step (now (mem .entry)) (begin old) .regs) ⌝ }
+    ensures { λ r. ⌜ (effectOf r (now (mem .exit)) (now (journal .exit)) ≡ committed (recordOf (now (mem .entry)) old) used (now (mem .entry)) (now (journal .entry)) (step.step (now (mem .entry)) (begin old) .answer) (step.step (now (mem .entry)) (begin old) .kind) (step.step (now (mem .entry)) (begin old) .address) (step.step (now (mem .entry)) (begin old) .stored)) × (now (regs .exit) ≡ step.step (now (mem .entry)) (begin old) .regs) ⌝ }
 {
     let mut log = [0u32; LOG];
     plan::begin(&mut log);

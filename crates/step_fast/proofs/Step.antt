@@ -14,7 +14,7 @@ use Rattle.rules.specs.Core.{core, wptrOf, priorityOf, gotoSNPBit, errorFlag}
 use Rattle.rules.specs.Stack as stack
 use Rattle.rules.specs.Registers.{statusReg, flagsReg, oreg, channelReg, linkChans, haltedFlag, idleFlag, runRequest, readyRequest, coreOf, withCore}
 use Rattle.rules.specs.Memory.{Store, word, stores}
-use Rattle.rules.specs.Work.{Work, begin, reg, put, putCore, wordAt, byteAt, access, append, storeWord, storeByte, rIndexWord, rIndexByte, wIndexWord}
+use Rattle.rules.specs.Work.{Work, untraced, begin, reg, put, putCore, wordAt, byteAt, access, append, storeWord, storeByte, rIndexWord, rIndexByte, wIndexWord}
 use Rattle.rules.specs.Scheduling as scheduling
 use Rattle.rules.specs.Data as loads
 use Rattle.rules.specs.Timers.{timerDue, timerReady}
@@ -56,7 +56,7 @@ core-listed s rest = refl
 -- the work that is left by a common step from s on, over the seven registers and the rest
 abbrev pub left : List ℕ → Core → FastStep → Work
 left rest s t =
-    record { regs = listed (t .core) rest; stored = fast.storesOf (listed s rest) t; answer = 0; kind = 0; address = 0 }
+    record { regs = listed (t .core) rest; stored = fast.storesOf (listed s rest) t; answer = 0; kind = 0; address = 0; trace = untraced }
 
 -- ---- the end of a step where Status is as before it, with GotoSNP clear
 
@@ -151,14 +151,14 @@ module _ (m rest : List ℕ) where
     frame-fits : index (atWord p (minus 1)) - 3 < range - 3
     frame-fits = omega arith
 
-  -- a store inside memory is appended
+  -- a store inside memory is appended to work that lists no accesses
   abbrev added : Store → Work → Work
-  added x w = record { regs = w .regs; stored = w .stored ++ (x ∷ []); answer = w .answer; kind = w .kind; address = w .address }
+  added x w = record { regs = w .regs; stored = w .stored ++ (x ∷ []); answer = w .answer; kind = w .kind; address = w .address; trace = untraced }
 
-  store-added : (base n v i : ℕ) (w : Work) → index (atWord base n) ≡ i → i < length m → w .answer ≡ 0
+  store-added : (base n v i : ℕ) (w : Work) → index (atWord base n) ≡ i → i < length m → w .answer ≡ 0 → w .trace ≡ untraced
       → wIndexWord m base n v w ≡ added (word i v) w
   unfolding wIndexWord storeWord access append
-  store-added base n v i w e h z = rw (e, yes-lt h, yes-eq z)
+  store-added base n v i w e h z t = rw (e, yes-lt h, yes-eq z, t)
 
   frame-added : (s : Core) (i : ℕ)
       → index (atWord (wptrOf (s .wdesc)) (minus 1)) ≡ i + 3
@@ -167,7 +167,7 @@ module _ (m rest : List ℕ) where
       → index (atWord (wptrOf (s .wdesc)) (minus 4)) ≡ i
       → i + 3 < length m
       → loads.callFrame m (begin (listed s rest))
-      ≡ record { regs = listed s rest; stored = fast.frame i (s .iptr) (s .a) (s .b) (s .c); answer = 0; kind = 0; address = 0 }
+      ≡ record { regs = listed s rest; stored = fast.frame i (s .iptr) (s .a) (s .b) (s .c); answer = 0; kind = 0; address = 0; trace = untraced }
   unfolding loads.callFrame
   frame-added s i e₁ e₂ e₃ e₄ h =
       let p = wptrOf (s .wdesc) in
@@ -176,15 +176,15 @@ module _ (m rest : List ℕ) where
       let w₂ = added (word (i + 2) (s .b)) w₁ in
       let w₃ = added (word (i + 1) (s .a)) w₂ in
       rw (
-        store-added p (minus 1) (s .c) (i + 3) w e₁ h refl,
-        store-added p (minus 2) (s .b) (i + 2) w₁ e₂ (omega arith) refl,
-        store-added p (minus 3) (s .a) (i + 1) w₂ e₃ (omega arith) refl,
-        store-added p (minus 4) (s .iptr) i w₃ e₄ (omega arith) refl,
+        store-added p (minus 1) (s .c) (i + 3) w e₁ h refl refl,
+        store-added p (minus 2) (s .b) (i + 2) w₁ e₂ (omega arith) refl refl,
+        store-added p (minus 3) (s .a) (i + 1) w₂ e₃ (omega arith) refl refl,
+        store-added p (minus 4) (s .iptr) i w₃ e₄ (omega arith) refl refl,
       )
 
   called : (s : Core) (i : ℕ) → i < range - 3 → bitAnd (s .status) gotoSNPBit ≡ 0
       → loads.callFrame m (begin (listed s rest))
-      ≡ record { regs = listed s rest; stored = fast.frame i (s .iptr) (s .a) (s .b) (s .c); answer = 0; kind = 0; address = 0 }
+      ≡ record { regs = listed s rest; stored = fast.frame i (s .iptr) (s .a) (s .b) (s .c); answer = 0; kind = 0; address = 0; trace = untraced }
       → steps.haltOnError (s .status) (steps.execute m 0x9 (begin (listed s rest))) ≡ left rest s (fast.finishCalling i (s .iptr) (fast.entered s))
   unfolding steps.execute tables.function tables.functions fast.entered loads.call loads.entered loads.jumpBy loads.adjusted put
   called s i f clear e = rw (e, yes-lt f) (finish m (s .status) _ refl clear)

@@ -10,7 +10,7 @@ use Rattle.rules.specs.Core.{core, withIptr, withA, withOreg, wptrOf, moveWorks
 use Rattle.rules.specs.Stack as stack
 use Rattle.rules.specs.Registers.{areg, breg, creg, coreOf, withCore}
 use Rattle.rules.specs.Memory.{Store, word}
-use Rattle.rules.specs.Work.{Work}
+use Rattle.rules.specs.Work.{Work, untraced}
 use Rattle.rules.specs.declared.Core.{Core}
 use Rattle.step_pending.specs.NothingPending.{sliceEnds, nothingPending}
 use Rattle.core_table.specs.Selected.{registerOperation}
@@ -207,4 +207,4 @@ storesOf r t = stored (t .stores) (t .index) (t .value) (getD r areg 0) (getD r 
 -- the work that a common step stands for, from the registers r before it (DECISIONS 44, 54)
 abbrev pub fastWork : List ℕ → FastStep → Work
 fastWork r t =
-    record { regs = withCore (t .core) r; stored = storesOf r t; answer = 0; kind = 0; address = 0 }
+    record { regs = withCore (t .core) r; stored = storesOf r t; answer = 0; kind = 0; address = 0; trace = untraced }

@@ -28,7 +28,7 @@ pub fn fresh(mem: &mut [u32], journal: &mut [u32], code: &[u8]) -> Reply
 }
 
 // Makes one step. Nearly every step is a common one, which needs no plan (step_fast); step_engine makes the others, and those for whose record
-// the journal may have no room. step_engine is lent a copy of the registers and answers two numbers, since a machine or a reply that is handed on
+// the journal may have no room. step_engine is lent a copy of the registers and answers a few numbers, since a machine or a reply that is handed on
 // would be copied.
 pub fn step(m: Machine, mem: &mut [u32], journal: &mut [u32]) -> Reply
     ensures { λ r. ⌜ StepContract m (now (mem .entry)) (now (journal .entry)) r (now (mem .exit)) (now (journal .exit)) ⌝ }
@@ -52,7 +52,7 @@ pub fn step(m: Machine, mem: &mut [u32], journal: &mut [u32]) -> Reply
     let committed = step_engine::plan_and_commit(regs, &mut next, used, mem, journal);
     let refused = committed.number;
     if refused != 0 {
-        return journal::checks::refuse(m, refused);
+        return journal::checks::refuse_at(m, refused, committed.part, committed.address);
     }
     let count = committed.count;
     let machine = Machine {

@@ -12,8 +12,9 @@
 //     u32 each             the registers, the memory, the journal
 //     bytes                the code, and zero bytes up to a multiple of 4
 // A response:
-//     u32 answer           0 for done, else 01's number of the refusal
+//     u32 answer           0 for done, else 01's number of the refusal; plus 256 times its part: 10a 1, 10b 2, 10c 3 (02, No. 1)
 //     u32 byte             of an accepted take, else 0
+//     u32 address          of the access that was outside memory, else 0
 //     u64 depth, u64 used
 //     u32 each             the registers, the memory, the journal
 //

@@ -6,27 +6,47 @@ use Rattle.rules.specs.Calls.{Outcome, fresh, step}
 use Rattle.rules.specs.declared.Machine.{Machine}
 use Rattle.t414_run.specs.declared.Tally.{Tally}
 
--- the fields of the program's line, and the lent words after the run (01, Numbers at the edges)
+-- the fields of the program's line, the part and address of its last field (02, No. 1), and the lent words after the run
+-- (01, Numbers at the edges)
 pub record Result : Type 0 where
   pub machine : Machine
   pub steps : ℕ
   pub refusal : ℕ
+  pub part : ℕ
+  pub address : ℕ
   pub memory : List ℕ
   pub journal : List ℕ
 
 -- the result that the code returns: its tally, and the lent words after the run (01, Numbers at the edges)
 abbrev pub resultOf : Tally → List ℕ → List ℕ → Result
 resultOf t mem j =
-    record { machine = t .machine; steps = t .steps; refusal = t .refusal; memory = mem; journal = j }
+    record {
+      machine = t .machine;
+      steps = t .steps;
+      refusal = t .refusal .number;
+      part = t .refusal .part;
+      address = t .refusal .address;
+      memory = mem;
+      journal = j;
+    }
 
 -- the result of a run that a refusal ends, after some accepted steps (01, Numbers at the edges)
 abbrev pub endAt : ℕ → Outcome → Result
 endAt steps o =
-    record { machine = o .machine; steps = steps; refusal = o .answer; memory = o .memory; journal = o .journal }
+    record {
+      machine = o .machine;
+      steps = steps;
+      refusal = o .answer;
+      part = o .part;
+      address = o .address;
+      memory = o .memory;
+      journal = o .journal;
+    }
 
 -- the result after up to n steps more, until a refusal (01, Numbers at the edges)
 unfoldable pub run : ℕ → ℕ → Machine → List ℕ → List ℕ → Result
-run zero steps m mem j = record { machine = m; steps = steps; refusal = 0; memory = mem; journal = j }
+run zero steps m mem j =
+    record { machine = m; steps = steps; refusal = 0; part = 0; address = 0; memory = mem; journal = j }
 run (suc n) steps m mem j =
     ifEq (step m mem j .answer) 0
     (run n (steps + 1) (step m mem j .machine) (step m mem j .memory) (step m mem j .journal))

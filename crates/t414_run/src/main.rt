@@ -1,9 +1,14 @@
 // Runs T414 code from standard input for up to 100 steps and prints one line (01, Numbers at the edges): A, B, C, the accepted
-// steps, the journal words used, and the number of the refusal that ended the run, or 0.
+// steps, the journal words used, and the refusal that ended the run, or 0. An access outside memory is also told on standard error, with its
+// address (02, No. 1).
 use program_io::answers;
+use program_io::answers::Refusal;
 use program_io::lines;
+use program_io::lines::Written;
 use rules::Machine;
 ghost use mathlib.Core.Path.{_≡_};
+ghost use Prim.Native.Nat.{_≤_};
+ghost use lib.ListN.{length};
 ghost use Rattle.t414_run.specs.Program as program;
 ghost use Rattle.t414_run.specs.Program.{resultOf};
 
@@ -11,7 +16,7 @@ ghost use Rattle.t414_run.specs.Program.{resultOf};
 struct Tally {
     machine: Machine,
     steps: u64,
-    refusal: u32,
+    refusal: Refusal,
 }
 
 // Steps until a refusal, and 100 times at most. A refused step returns the machine unchanged. This is the only place that calls
@@ -25,10 +30,10 @@ fn run(m: Machine, mem: &mut [u32], journal: &mut [u32]) -> Tally
     while steps < most {
         let reply = t414::step(machine, mem, journal);
         let answer = reply.answer;
-        let refusal = answers::number_of(answer);
+        let refusal = answers::refusal_of(answer);
         let next = reply.machine;
         machine = next;
-        if refusal != 0 {
+        if refusal.number != 0 {
             return Tally {
                 machine: machine,
                 steps: steps,
@@ -40,7 +45,7 @@ fn run(m: Machine, mem: &mut [u32], journal: &mut [u32]) -> Tally
     Tally {
         machine: machine,
         steps: steps,
-        refusal: 0,
+        refusal: answers::plain(0),
     }
 }
 
@@ -51,8 +56,8 @@ fn run_code(mem: &mut [u32], journal: &mut [u32], code: &[u8]) -> Tally
     let reply = t414::fresh(mem, journal, code);
     let answer = reply.answer;
     let machine = reply.machine;
-    let refusal = answers::number_of(answer);
-    if refusal != 0 {
+    let refusal = answers::refusal_of(answer);
+    if refusal.number != 0 {
         return Tally {
             machine: machine,
             steps: 0,
@@ -62,12 +67,23 @@ fn run_code(mem: &mut [u32], journal: &mut [u32], code: &[u8]) -> Tally
     run(machine, mem, journal)
 }
 
+// Writes a line on standard output (1) or standard error (2).
+fn print(stream: i32, line: Written)
+    requires { ⌜ line .size ≤ length (line .text) ⌝ }
+{
+    let text = line.text;
+    let n = line.size;
+    io::write_all(stream, &text[..n]);
+}
+
+// Prints the line, and on standard error the access that was outside memory, where there is one.
 fn print_tally(t: Tally) {
     let m = t.machine;
-    let written = lines::line(m, t.steps, t.refusal);
-    let text = written.text;
-    let n = written.size;
-    io::write_all(1, &text[..n]);
+    let refusal = t.refusal;
+    print(1, lines::line(m, t.steps, refusal));
+    if refusal.part != 0 {
+        print(2, lines::outside_line(refusal.part, refusal.address));
+    }
 }
 
 fn main() {

@@ -1,6 +1,6 @@
 use mathlib.Core.Path.{sym, _∙_}
 use Prim.Native.Nat.{_-_}
-use Rattle.rules.specs.Calls.{numberOf}
+use Rattle.rules.specs.Calls.{numbered}
 use Rattle.journal.proofs.CommitOrRefuse.{clear-refused, clear-done}
 use borrow.Author.Needs.{needs}
 use Rattle.t414.proofs.clear.Statement.{statement}
@@ -14,7 +14,7 @@ returns c =
     c .refuse .ensures (a .mem .now) (a .journal .now) ∙ clear-refused (a .m) (a .mem .now) (a .journal .now) (sym (z .size-bad .ensures) ∙ i .if1 .taken)
 
 returns-2 : tie.Need-returns-2
-unfolding numberOf
+unfolding numbered
 returns-2 c =
     let i = c .before in
     let z = i .before in

@@ -2,7 +2,7 @@ use native.Mathlib.Omega.{arith}
 use mathlib.Core.Path.{sym, _∙_}
 use Prim.Native.Nat.{_-_}
 use lib.ListN.{length}
-use Rattle.rules.specs.Calls.{numberOf}
+use Rattle.rules.specs.Calls.{numbered}
 use Rattle.journal.proofs.Refusing.{size-good}
 use Rattle.loading.proofs.Loading.{code-good, fresh-size, fresh-code, fresh-done}
 use borrow.Author.Needs.{needs}
@@ -51,7 +51,7 @@ fresh-machine-requires c κs =
     omega (arith, g, s)
 
 returns-3 : tie.Need-returns-3
-unfolding numberOf
+unfolding numbered
 returns-3 c =
     let w = c .before .before .before in
     let k = w .before .before in

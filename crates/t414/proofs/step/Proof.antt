@@ -12,7 +12,7 @@ use Rattle.journal.proofs.LastRecord.{within}
 use Rattle.journal_record.proofs.Outcomes.{number-done}
 use Rattle.journal.proofs.Refusing.{number-known, stopped, passed}
 use Rattle.journal.proofs.CommitOrRefuse.{ready, step-known}
-use Rattle.journal.proofs.Effects.{fits, number-small, call-refused, call-done}
+use Rattle.journal.proofs.Effects.{fits, told-known, call-refused, call-done}
 use Rattle.t414.proofs.Commons.{common-step-is, room-left}
 use Rattle.t414.proofs.step.Statement.{statement}
 use Rattle.t414.proofs.step.Tie as tie
@@ -62,42 +62,42 @@ plan-and-commit-requires c κs =
     let r = ready false (a .m) (a .mem .now) (a .journal .now) (sym (c .before .before .before .before .before .before .before .before .first-bad .ensures) ∙ c .before .before .before .before .before .before .before .if1 .left) in
     (refl, r .0, r .1, within (a .m) (a .mem .now) (a .journal .now) (sym (c .before .before .before .before .before .before .before .before .first-bad .ensures) ∙ c .before .before .before .before .before .before .before .if1 .left) .0)
 
-refuse-requires-2 : tie.Need-refuse-requires-2
-refuse-requires-2 c κs =
+refuse-at-requires : tie.Need-refuse-at-requires
+refuse-at-requires c κs =
     let S = c .before .before .before .before .before .before .before .before .before .before .before .before .before .before .before .before .before in
     let a = S .args in
-    number-small (recordOf (a .mem .now) (a .m .regs)) (a .m .used) (a .mem .now) (a .journal .now) ((steps.step (a .mem .now) (begin (a .m .regs))) .answer) ((steps.step (a .mem .now) (begin (a .m .regs))) .stored) _ (c .before .before .before .before .before .plan-and-commit .ensures .0) (step-known (a .m .regs) (long S) (a .mem .now))
+    told-known (recordOf (a .mem .now) (a .m .regs)) (a .m .used) (a .mem .now) (a .journal .now) ((steps.step (a .mem .now) (begin (a .m .regs))) .answer) ((steps.step (a .mem .now) (begin (a .m .regs))) .kind) ((steps.step (a .mem .now) (begin (a .m .regs))) .address) ((steps.step (a .mem .now) (begin (a .m .regs))) .stored) _ (c .before .before .before .before .before .plan-and-commit .ensures .0) (step-known (a .m .regs) (long S) (a .mem .now))
 
 returns-3 : tie.Need-returns-3
 unfolding step
 returns-3 c =
     let S = c .before .before .before .before .before .before .before .before .before .before .before .before .before .before .before .before .before .before in
     let a = S .args in
-    c .refuse2 .ensures _ _ ∙ call-refused (a .m) (a .mem .now) (a .journal .now) 0 (steps.step (a .mem .now) (begin (a .m .regs))) _ (c .before .before .before .before .before .before .plan-and-commit .ensures .0) (c .before .if5 .taken) ∙ passed false (a .m) (a .mem .now) (a .journal .now) (sym (c .before .before .before .before .before .before .before .before .before .before .before .before .before .before .before .first-bad .ensures) ∙ c .before .before .before .before .before .before .before .before .before .before .before .before .before .before .if1 .left) _
+    c .refuse-at .ensures _ _ ∙ call-refused (a .m) (a .mem .now) (a .journal .now) 0 (steps.step (a .mem .now) (begin (a .m .regs))) _ (c .before .before .before .before .before .before .plan-and-commit .ensures .0) (c .before .if5 .taken) ∙ passed false (a .m) (a .mem .now) (a .journal .now) (sym (c .before .before .before .before .before .before .before .before .before .before .before .before .before .before .before .first-bad .ensures) ∙ c .before .before .before .before .before .before .before .before .before .before .before .before .before .before .if1 .left) _
 
 add-t15 : tie.Need-add-t15
 add-t15 c =
     let S = c .before .before .before .before .before .before .before .before .before .before .before .before .before .before .before .before .before .before in
     let a = S .args in
-    omega (arith, fits (recordOf (a .mem .now) (a .m .regs)) (a .m .used) (a .mem .now) (a .journal .now) ((steps.step (a .mem .now) (begin (a .m .regs))) .answer) ((steps.step (a .mem .now) (begin (a .m .regs))) .stored) _ (c .before .before .before .before .before .before .plan-and-commit .ensures .0) (c .before .if5 .left), ready false (a .m) (a .mem .now) (a .journal .now) (sym (c .before .before .before .before .before .before .before .before .before .before .before .before .before .before .before .first-bad .ensures) ∙ c .before .before .before .before .before .before .before .before .before .before .before .before .before .before .if1 .left), within (a .m) (a .mem .now) (a .journal .now) (sym (c .before .before .before .before .before .before .before .before .before .before .before .before .before .before .before .first-bad .ensures) ∙ c .before .before .before .before .before .before .before .before .before .before .before .before .before .before .if1 .left))
+    omega (arith, fits (recordOf (a .mem .now) (a .m .regs)) (a .m .used) (a .mem .now) (a .journal .now) ((steps.step (a .mem .now) (begin (a .m .regs))) .answer) ((steps.step (a .mem .now) (begin (a .m .regs))) .kind) ((steps.step (a .mem .now) (begin (a .m .regs))) .address) ((steps.step (a .mem .now) (begin (a .m .regs))) .stored) _ (c .before .before .before .before .before .before .plan-and-commit .ensures .0) (c .before .if5 .left), ready false (a .m) (a .mem .now) (a .journal .now) (sym (c .before .before .before .before .before .before .before .before .before .before .before .before .before .before .before .first-bad .ensures) ∙ c .before .before .before .before .before .before .before .before .before .before .before .before .before .before .if1 .left), within (a .m) (a .mem .now) (a .journal .now) (sym (c .before .before .before .before .before .before .before .before .before .before .before .before .before .before .before .first-bad .ensures) ∙ c .before .before .before .before .before .before .before .before .before .before .before .before .before .before .if1 .left))
 
 mul-t14 : tie.Need-mul-t14
 mul-t14 c =
     let S = c .before .before .before .before .before .before .before .before .before .before .before .before .before .before .before .before .before .before in
     let a = S .args in
-    omega (arith, fits (recordOf (a .mem .now) (a .m .regs)) (a .m .used) (a .mem .now) (a .journal .now) ((steps.step (a .mem .now) (begin (a .m .regs))) .answer) ((steps.step (a .mem .now) (begin (a .m .regs))) .stored) _ (c .before .before .before .before .before .before .plan-and-commit .ensures .0) (c .before .if5 .left), ready false (a .m) (a .mem .now) (a .journal .now) (sym (c .before .before .before .before .before .before .before .before .before .before .before .before .before .before .before .first-bad .ensures) ∙ c .before .before .before .before .before .before .before .before .before .before .before .before .before .before .if1 .left), within (a .m) (a .mem .now) (a .journal .now) (sym (c .before .before .before .before .before .before .before .before .before .before .before .before .before .before .before .first-bad .ensures) ∙ c .before .before .before .before .before .before .before .before .before .before .before .before .before .before .if1 .left))
+    omega (arith, fits (recordOf (a .mem .now) (a .m .regs)) (a .m .used) (a .mem .now) (a .journal .now) ((steps.step (a .mem .now) (begin (a .m .regs))) .answer) ((steps.step (a .mem .now) (begin (a .m .regs))) .kind) ((steps.step (a .mem .now) (begin (a .m .regs))) .address) ((steps.step (a .mem .now) (begin (a .m .regs))) .stored) _ (c .before .before .before .before .before .before .plan-and-commit .ensures .0) (c .before .if5 .left), ready false (a .m) (a .mem .now) (a .journal .now) (sym (c .before .before .before .before .before .before .before .before .before .before .before .before .before .before .before .first-bad .ensures) ∙ c .before .before .before .before .before .before .before .before .before .before .before .before .before .before .if1 .left), within (a .m) (a .mem .now) (a .journal .now) (sym (c .before .before .before .before .before .before .before .before .before .before .before .before .before .before .before .first-bad .ensures) ∙ c .before .before .before .before .before .before .before .before .before .before .before .before .before .before .if1 .left))
 
 add-t32 : tie.Need-add-t32
 add-t32 c =
     let S = c .before .before .before .before .before .before .before .before .before .before .before .before .before .before .before .before .before .before in
     let a = S .args in
-    omega (arith, fits (recordOf (a .mem .now) (a .m .regs)) (a .m .used) (a .mem .now) (a .journal .now) ((steps.step (a .mem .now) (begin (a .m .regs))) .answer) ((steps.step (a .mem .now) (begin (a .m .regs))) .stored) _ (c .before .before .before .before .before .before .plan-and-commit .ensures .0) (c .before .if5 .left), ready false (a .m) (a .mem .now) (a .journal .now) (sym (c .before .before .before .before .before .before .before .before .before .before .before .before .before .before .before .first-bad .ensures) ∙ c .before .before .before .before .before .before .before .before .before .before .before .before .before .before .if1 .left), within (a .m) (a .mem .now) (a .journal .now) (sym (c .before .before .before .before .before .before .before .before .before .before .before .before .before .before .before .first-bad .ensures) ∙ c .before .before .before .before .before .before .before .before .before .before .before .before .before .before .if1 .left))
+    omega (arith, fits (recordOf (a .mem .now) (a .m .regs)) (a .m .used) (a .mem .now) (a .journal .now) ((steps.step (a .mem .now) (begin (a .m .regs))) .answer) ((steps.step (a .mem .now) (begin (a .m .regs))) .kind) ((steps.step (a .mem .now) (begin (a .m .regs))) .address) ((steps.step (a .mem .now) (begin (a .m .regs))) .stored) _ (c .before .before .before .before .before .before .plan-and-commit .ensures .0) (c .before .if5 .left), ready false (a .m) (a .mem .now) (a .journal .now) (sym (c .before .before .before .before .before .before .before .before .before .before .before .before .before .before .before .first-bad .ensures) ∙ c .before .before .before .before .before .before .before .before .before .before .before .before .before .before .if1 .left), within (a .m) (a .mem .now) (a .journal .now) (sym (c .before .before .before .before .before .before .before .before .before .before .before .before .before .before .before .first-bad .ensures) ∙ c .before .before .before .before .before .before .before .before .before .before .before .before .before .before .if1 .left))
 
 add-t33 : tie.Need-add-t33
 add-t33 c =
     let S = c .before .before .before .before .before .before .before .before .before .before .before .before .before .before .before .before .before .before in
     let a = S .args in
-    omega (arith, fits (recordOf (a .mem .now) (a .m .regs)) (a .m .used) (a .mem .now) (a .journal .now) ((steps.step (a .mem .now) (begin (a .m .regs))) .answer) ((steps.step (a .mem .now) (begin (a .m .regs))) .stored) _ (c .before .before .before .before .before .before .plan-and-commit .ensures .0) (c .before .if5 .left), ready false (a .m) (a .mem .now) (a .journal .now) (sym (c .before .before .before .before .before .before .before .before .before .before .before .before .before .before .before .first-bad .ensures) ∙ c .before .before .before .before .before .before .before .before .before .before .before .before .before .before .if1 .left), within (a .m) (a .mem .now) (a .journal .now) (sym (c .before .before .before .before .before .before .before .before .before .before .before .before .before .before .before .first-bad .ensures) ∙ c .before .before .before .before .before .before .before .before .before .before .before .before .before .before .if1 .left))
+    omega (arith, fits (recordOf (a .mem .now) (a .m .regs)) (a .m .used) (a .mem .now) (a .journal .now) ((steps.step (a .mem .now) (begin (a .m .regs))) .answer) ((steps.step (a .mem .now) (begin (a .m .regs))) .kind) ((steps.step (a .mem .now) (begin (a .m .regs))) .address) ((steps.step (a .mem .now) (begin (a .m .regs))) .stored) _ (c .before .before .before .before .before .before .plan-and-commit .ensures .0) (c .before .if5 .left), ready false (a .m) (a .mem .now) (a .journal .now) (sym (c .before .before .before .before .before .before .before .before .before .before .before .before .before .before .before .first-bad .ensures) ∙ c .before .before .before .before .before .before .before .before .before .before .before .before .before .before .if1 .left), within (a .m) (a .mem .now) (a .journal .now) (sym (c .before .before .before .before .before .before .before .before .before .before .before .before .before .before .before .first-bad .ensures) ∙ c .before .before .before .before .before .before .before .before .before .before .before .before .before .before .if1 .left))
 
 returns-4 : tie.Need-returns-4
 unfolding step
@@ -118,7 +118,7 @@ step-spec =
     (λ c. search needs) (λ c. search needs)
     returns-2
     plan-and-commit-requires
-    refuse-requires-2
+    refuse-at-requires
     (λ c. search needs) (λ c. search needs)
     returns-3
     add-t15

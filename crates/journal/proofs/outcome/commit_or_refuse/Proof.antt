@@ -4,10 +4,10 @@ use mathlib.Core.Path.{_∙_}
 use Prim.Native.Nat.{_*_, _≤_}
 use lib.ListN.{length}
 use Rattle.rules.specs.Journal.{recordLength, olds}
-use Rattle.plan.specs.View.{view, answerOf, storesOf}
+use Rattle.plan.specs.View.{view, answerOf, kindOf, addressOf, storesOf}
 use Rattle.journal_record.proofs.JournalBounds.{bounds-good}
 use Rattle.journal_record.proofs.Outcomes.{number-done}
-use Rattle.journal.proofs.Effects.{fits, number-small, ended-refused, ended-done, call-refused, call-done}
+use Rattle.journal.proofs.Effects.{fits, told-known, ended-refused, ended-done, call-refused, call-done}
 use Rattle.journal.proofs.outcome.commit_or_refuse.Statement.{statement}
 use Rattle.journal.proofs.outcome.commit_or_refuse.Tie as tie
 
@@ -20,67 +20,67 @@ commit-requires c κs =
     let S = c .before .before .before .before in
     (S .pre .1, S .pre .2, S .pre .3, good S .0)
 
-refuse-requires : tie.Need-refuse-requires
-refuse-requires c κs =
+refuse-at-requires : tie.Need-refuse-at-requires
+refuse-at-requires c κs =
     let S = c .before .before .before .before .before .before .before .before .before .before in
     let a = S .args in
-    number-small (olds (a .mem .now)) (a .m .used) (a .mem .now) (a .journal .now) (answerOf (a .log .now)) (storesOf (a .log .now)) _ (c .before .before .before .before .before .commit .ensures) (S .pre .0)
+    told-known (olds (a .mem .now)) (a .m .used) (a .mem .now) (a .journal .now) (answerOf (a .log .now)) (kindOf (a .log .now)) (addressOf (a .log .now)) (storesOf (a .log .now)) _ (c .before .before .before .before .before .commit .ensures) (S .pre .0)
 
 returns : tie.Need-returns
 returns c =
     let a = c .before .before .before .before .before .before .before .before .before .before .before .args in
     let n = c .before .if1 .taken in
-    c .refuse .ensures _ _
+    c .refuse-at .ensures _ _
     ∙ call-refused (a .m) (a .mem .now) (a .journal .now) (a .byte) (view (a .regs .now) (a .log .now)) _
-    (ended-refused (a .m .regs) (a .m .used) (a .mem .now) (a .journal .now) (answerOf (a .log .now)) (storesOf (a .log .now)) _ (c .before .before .before .before .before .before .commit .ensures) n) n
+    (ended-refused (a .m .regs) (a .m .used) (a .mem .now) (a .journal .now) (answerOf (a .log .now)) (kindOf (a .log .now)) (addressOf (a .log .now)) (storesOf (a .log .now)) _ (c .before .before .before .before .before .before .commit .ensures) n) n
 
 cast-put-tail : tie.Need-cast-put-tail
 cast-put-tail c =
     let S = c .before .before .before .before .before .before .before .before .before .before .before .before in
     let a = S .args in
-    omega (arith, fits (olds (a .mem .now)) (a .m .used) (a .mem .now) (a .journal .now) (answerOf (a .log .now)) (storesOf (a .log .now)) _ (c .before .before .before .before .before .before .before .commit .ensures) (c .before .before .if1 .left), good S, c .before .before .before .before .before .before .before .commit .kept)
+    omega (arith, fits (olds (a .mem .now)) (a .m .used) (a .mem .now) (a .journal .now) (answerOf (a .log .now)) (kindOf (a .log .now)) (addressOf (a .log .now)) (storesOf (a .log .now)) _ (c .before .before .before .before .before .before .before .commit .ensures) (c .before .before .if1 .left), good S, c .before .before .before .before .before .before .before .commit .kept)
 
 mul-put-tail : tie.Need-mul-put-tail
 mul-put-tail c =
     let S = c .before .before .before .before .before .before .before .before .before .before .before .before in
     let a = S .args in
-    omega (arith, fits (olds (a .mem .now)) (a .m .used) (a .mem .now) (a .journal .now) (answerOf (a .log .now)) (storesOf (a .log .now)) _ (c .before .before .before .before .before .before .before .commit .ensures) (c .before .before .if1 .left), good S, c .before .before .before .before .before .before .before .commit .kept)
+    omega (arith, fits (olds (a .mem .now)) (a .m .used) (a .mem .now) (a .journal .now) (answerOf (a .log .now)) (kindOf (a .log .now)) (addressOf (a .log .now)) (storesOf (a .log .now)) _ (c .before .before .before .before .before .before .before .commit .ensures) (c .before .before .if1 .left), good S, c .before .before .before .before .before .before .before .commit .kept)
 
 add-put-tail : tie.Need-add-put-tail
 add-put-tail c =
     let S = c .before .before .before .before .before .before .before .before .before .before .before .before in
     let a = S .args in
-    omega (arith, fits (olds (a .mem .now)) (a .m .used) (a .mem .now) (a .journal .now) (answerOf (a .log .now)) (storesOf (a .log .now)) _ (c .before .before .before .before .before .before .before .commit .ensures) (c .before .before .if1 .left), good S, c .before .before .before .before .before .before .before .commit .kept)
+    omega (arith, fits (olds (a .mem .now)) (a .m .used) (a .mem .now) (a .journal .now) (answerOf (a .log .now)) (kindOf (a .log .now)) (addressOf (a .log .now)) (storesOf (a .log .now)) _ (c .before .before .before .before .before .before .before .commit .ensures) (c .before .before .if1 .left), good S, c .before .before .before .before .before .before .before .commit .kept)
 
 put-tail-requires : tie.Need-put-tail-requires
 put-tail-requires c κs =
     let S = c .before .before .before .before .before .before .before .before .before .before .before .before in
     let a = S .args in
-    omega (arith, fits (olds (a .mem .now)) (a .m .used) (a .mem .now) (a .journal .now) (answerOf (a .log .now)) (storesOf (a .log .now)) _ (c .before .before .before .before .before .before .before .commit .ensures) (c .before .before .if1 .left), good S, c .before .before .before .before .before .before .before .commit .kept)
+    omega (arith, fits (olds (a .mem .now)) (a .m .used) (a .mem .now) (a .journal .now) (answerOf (a .log .now)) (kindOf (a .log .now)) (addressOf (a .log .now)) (storesOf (a .log .now)) _ (c .before .before .before .before .before .before .before .commit .ensures) (c .before .before .if1 .left), good S, c .before .before .before .before .before .before .before .commit .kept)
 
 add-t22 : tie.Need-add-t22
 add-t22 c =
     let S = c .before .before .before .before .before .before .before .before .before .before .before .before .before .before .before .before .before in
     let a = S .args in
-    omega (arith, fits (olds (a .mem .now)) (a .m .used) (a .mem .now) (a .journal .now) (answerOf (a .log .now)) (storesOf (a .log .now)) _ (c .before .before .before .before .before .before .before .before .before .before .before .before .commit .ensures) (c .before .before .before .before .before .before .before .if1 .left), good S, c .before .before .before .before .before .before .before .before .before .before .before .before .commit .kept)
+    omega (arith, fits (olds (a .mem .now)) (a .m .used) (a .mem .now) (a .journal .now) (answerOf (a .log .now)) (kindOf (a .log .now)) (addressOf (a .log .now)) (storesOf (a .log .now)) _ (c .before .before .before .before .before .before .before .before .before .before .before .before .commit .ensures) (c .before .before .before .before .before .before .before .if1 .left), good S, c .before .before .before .before .before .before .before .before .before .before .before .before .commit .kept)
 
 mul-t23 : tie.Need-mul-t23
 mul-t23 c =
     let S = c .before .before .before .before .before .before .before .before .before .before .before .before .before .before .before .before .before in
     let a = S .args in
-    omega (arith, fits (olds (a .mem .now)) (a .m .used) (a .mem .now) (a .journal .now) (answerOf (a .log .now)) (storesOf (a .log .now)) _ (c .before .before .before .before .before .before .before .before .before .before .before .before .commit .ensures) (c .before .before .before .before .before .before .before .if1 .left), good S, c .before .before .before .before .before .before .before .before .before .before .before .before .commit .kept)
+    omega (arith, fits (olds (a .mem .now)) (a .m .used) (a .mem .now) (a .journal .now) (answerOf (a .log .now)) (kindOf (a .log .now)) (addressOf (a .log .now)) (storesOf (a .log .now)) _ (c .before .before .before .before .before .before .before .before .before .before .before .before .commit .ensures) (c .before .before .before .before .before .before .before .if1 .left), good S, c .before .before .before .before .before .before .before .before .before .before .before .before .commit .kept)
 
 add-t25 : tie.Need-add-t25
 add-t25 c =
     let S = c .before .before .before .before .before .before .before .before .before .before .before .before .before .before .before .before .before in
     let a = S .args in
-    omega (arith, fits (olds (a .mem .now)) (a .m .used) (a .mem .now) (a .journal .now) (answerOf (a .log .now)) (storesOf (a .log .now)) _ (c .before .before .before .before .before .before .before .before .before .before .before .before .commit .ensures) (c .before .before .before .before .before .before .before .if1 .left), good S, c .before .before .before .before .before .before .before .before .before .before .before .before .commit .kept)
+    omega (arith, fits (olds (a .mem .now)) (a .m .used) (a .mem .now) (a .journal .now) (answerOf (a .log .now)) (kindOf (a .log .now)) (addressOf (a .log .now)) (storesOf (a .log .now)) _ (c .before .before .before .before .before .before .before .before .before .before .before .before .commit .ensures) (c .before .before .before .before .before .before .before .if1 .left), good S, c .before .before .before .before .before .before .before .before .before .before .before .before .commit .kept)
 
 add-t26 : tie.Need-add-t26
 add-t26 c =
     let S = c .before .before .before .before .before .before .before .before .before .before .before .before .before .before .before .before .before in
     let a = S .args in
-    omega (arith, fits (olds (a .mem .now)) (a .m .used) (a .mem .now) (a .journal .now) (answerOf (a .log .now)) (storesOf (a .log .now)) _ (c .before .before .before .before .before .before .before .before .before .before .before .before .commit .ensures) (c .before .before .before .before .before .before .before .if1 .left), good S, c .before .before .before .before .before .before .before .before .before .before .before .before .commit .kept)
+    omega (arith, fits (olds (a .mem .now)) (a .m .used) (a .mem .now) (a .journal .now) (answerOf (a .log .now)) (kindOf (a .log .now)) (addressOf (a .log .now)) (storesOf (a .log .now)) _ (c .before .before .before .before .before .before .before .before .before .before .before .before .commit .ensures) (c .before .before .before .before .before .before .before .if1 .left), good S, c .before .before .before .before .before .before .before .before .before .before .before .before .commit .kept)
 
 returns-2 : tie.Need-returns-2
 returns-2 c =
@@ -88,13 +88,13 @@ returns-2 c =
     let n = c .before .before .before .before .before .before .before .if1 .left in
     rw (c .before .before .before .before .put-tail .ensures, number-done)
     (call-done (a .m) (a .mem .now) (a .journal .now) (a .byte) (view (a .regs .now) (a .log .now)) _
-    (ended-done (a .m .regs) (a .m .used) (a .mem .now) (a .journal .now) (answerOf (a .log .now)) (storesOf (a .log .now)) _ (c .before .before .before .before .before .before .before .before .before .before .before .before .commit .ensures) n) n)
+    (ended-done (a .m .regs) (a .m .used) (a .mem .now) (a .journal .now) (answerOf (a .log .now)) (kindOf (a .log .now)) (addressOf (a .log .now)) (storesOf (a .log .now)) _ (c .before .before .before .before .before .before .before .before .before .before .before .before .commit .ensures) n) n)
 
 pub commit-or-refuse-spec : {M : Type 1} → statement M
 commit-or-refuse-spec =
     tie.close (tie.spec
     commit-requires
-    refuse-requires
+    refuse-at-requires
     (λ c. search needs) (λ c. search needs)
     returns
     cast-put-tail
