@@ -162,7 +162,7 @@ module _ (m : Machine) (mem j : List ℕ) (h : length (m .regs) ≡ registers) w
       on-eq (Kept mem j) _ _
       (on-lt (Kept mem j) _ _ (kept-refused 12 (omega arith))
       (record {
-        count = f .count .0;
+        count = f .ordinary .0;
         memory = length-stores mem (w .stored);
         journal = length-sets j (m .used) (recordOf mem (m .regs) (touched (length mem) (w .stored)));
         known = plain 0 (omega arith);

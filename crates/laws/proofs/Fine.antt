@@ -1,4 +1,4 @@
--- Fine work is whole: it has 45 registers and lists no accesses; and its answer, with the kind and address of its access, has a property P: to be one of 01's numbers, say, or not to be 9.
+-- Fine work is ordinary: it has 45 registers and lists no accesses; and its answer, with the kind and address of its access, has a property P: to be one of 01's numbers, say, or not to be 9.
 -- P must turn from no refusal to 10b and 10c, since any load or store may be outside. What refuses with another number, or fetches, asks the same of that.
 use mathlib.Core.Path.{_≡_, refl, sym, ap, subst, _∙_}
 use mathlib.Core.List.{List, [], _∷_}
@@ -8,10 +8,10 @@ use lib.ListN.{length, length-set}
 use Rattle.rules.specs.Words.{index, atByte}
 use Rattle.rules.specs.Registers.{registers, withCore, withSystem}
 use Rattle.rules.specs.Memory.{Store}
-use Rattle.rules.specs.Work.{Access, Trace, untraced, traceMore, Work, kindFetch, kindLoad, kindStore, moveOutside, begin, note, moveAccesses, put, putCore, putSystem, outside, refuseAt, refuse, append, access, moveOrRefuse, transfer}
+use Rattle.rules.specs.Work.{Access, Trace, untraced, traceMore, Work, kindFetch, kindLoad, kindStore, moveOutside, begin, note, moveAccesses, firstOutside, upToOutside, put, putCore, putSystem, outside, refuseAt, refuse, append, access, moveOrRefuse, transfer}
 use Rattle.rules.specs.declared.Core.{Core}
 use Rattle.rules.specs.declared.System.{System}
-use Rattle.laws.specs.Alike.{Whole}
+use Rattle.laws.specs.Alike.{Ordinary}
 use Rattle.laws.specs.Answers.{Proper, Known}
 use Rattle.laws.specs.Listed.{retrace}
 use Rattle.rules.proofs.Tests.{yes-lt, no-lt, yes-eq, no-eq, cases-lt, cases-eq, on-lt, on-eq}
@@ -29,7 +29,7 @@ abbrev pub Accessing : (ℕ → ℕ → ℕ → Type 0) → Type 0
 Accessing P = (k a : ℕ) → P 0 k a → (kind address : ℕ) → kindLoad ≤ kind → kind ≤ kindStore → P outside kind address
 
 pub record Fine (P : ℕ → ℕ → ℕ → Type 0) (w : Work) : Type 0 where
-  pub count : Whole w
+  pub ordinary : Ordinary w
   pub known : P (w .answer) (w .kind) (w .address)
   pub ten : Accessing P
 
@@ -47,7 +47,7 @@ pub accessing-turns : (P : ℕ → ℕ → ℕ → Type 0) → Turns P outside �
 accessing-turns P t k a z kind address low high = t k a z kind address (proper-access kind address (omega (arith, low)) high)
 
 pub fine-begin : (r : List ℕ) → length r ≡ registers → Fine Known (begin r)
-fine-begin r h = record { count = (h, refl); known = record { most = omega arith; proper = proper-refuse 0 (λ e. omega (arith, e)) }; ten = accessing-turns Known (turns-known outside (omega arith)) }
+fine-begin r h = record { ordinary = (h, refl); known = record { most = omega arith; proper = proper-refuse 0 (λ e. omega (arith, e)) }; ten = accessing-turns Known (turns-known outside (omega arith)) }
 
 length-withCore : (s : Core) (r : List ℕ) → length (withCore s r) ≡ length r
 unfolding withCore
@@ -60,7 +60,7 @@ length-withSystem y r = simp length-set
 -- the first access of a move outside memory is a load or a store
 move-kind : (m : List ℕ) (source destination n : ℕ) → (moveOutside m source destination n .0 ≡ 0 → ⊥)
     → (kindLoad ≤ moveOutside m source destination n .0) × (moveOutside m source destination n .0 ≤ kindStore)
-unfolding moveOutside
+unfolding moveOutside moveAccesses firstOutside
 move-kind m source destination zero n = absurd (n refl)
 move-kind m source destination (suc k) n =
     cases-lt (index source) (length m)
@@ -72,15 +72,15 @@ move-kind m source destination (suc k) n =
 module _ {P : ℕ → ℕ → ℕ → Type 0} where
   pub fine-put : (k v : ℕ) {w : Work} → Fine P w → Fine P (put k v w)
   unfolding put
-  fine-put k v {w} f = record { count = (length-set (w .regs) k v ∙ f .count .0, f .count .1); known = f .known; ten = f .ten }
+  fine-put k v {w} f = record { ordinary = (length-set (w .regs) k v ∙ f .ordinary .0, f .ordinary .1); known = f .known; ten = f .ten }
 
   pub fine-putCore : (s : Core) {w : Work} → Fine P w → Fine P (putCore s w)
   unfolding putCore
-  fine-putCore s {w} f = record { count = (length-withCore s (w .regs) ∙ f .count .0, f .count .1); known = f .known; ten = f .ten }
+  fine-putCore s {w} f = record { ordinary = (length-withCore s (w .regs) ∙ f .ordinary .0, f .ordinary .1); known = f .known; ten = f .ten }
 
   pub fine-putSystem : (y : System) {w : Work} → Fine P w → Fine P (putSystem y w)
   unfolding putSystem
-  fine-putSystem y {w} f = record { count = (length-withSystem y (w .regs) ∙ f .count .0, f .count .1); known = f .known; ten = f .ten }
+  fine-putSystem y {w} f = record { ordinary = (length-withSystem y (w .regs) ∙ f .ordinary .0, f .ordinary .1); known = f .known; ten = f .ten }
 
   -- ---- refusals, stores
 
@@ -88,7 +88,7 @@ module _ {P : ℕ → ℕ → ℕ → Type 0} where
   unfolding refuseAt
   fine-refuseAt number kind address h {w} f =
       cases-eq (w .answer) 0
-      (λ e. rw (yes-eq e) (record { count = f .count; known = h _ _ (subst (λ (n : ℕ). P n (w .kind) (w .address)) e (f .known)); ten = f .ten }))
+      (λ e. rw (yes-eq e) (record { ordinary = f .ordinary; known = h _ _ (subst (λ (n : ℕ). P n (w .kind) (w .address)) e (f .known)); ten = f .ten }))
       (λ e. rw (no-eq e) f)
 
   pub fine-refuse : (number : ℕ) → (number ≡ outside → ⊥) → Turns P number → {w : Work} → Fine P w → Fine P (refuse number w)
@@ -96,14 +96,14 @@ module _ {P : ℕ → ℕ → ℕ → Type 0} where
 
   pub fine-append : (s : Store) {w : Work} → Fine P w → Fine P (append s w)
   unfolding append
-  fine-append s f = on-eq (Fine P) _ _ (record { count = f .count; known = f .known; ten = f .ten }) f
+  fine-append s f = on-eq (Fine P) _ _ (record { ordinary = f .ordinary; known = f .known; ten = f .ten }) f
 
   -- ---- accesses
 
   -- an access, where P turns to its refusal
   pub fine-access : (m : List ℕ) (kind a : ℕ) → ((k b : ℕ) → P 0 k b → P outside kind a) → {w : Work} → Fine P w → Fine P (access m kind a w)
   unfolding access
-  fine-access m kind a h {w} f = rw (unnoted ((kind, a) ∷ []) w (f .count .1)) (on-lt (Fine P) _ _ f (fine-refuseAt _ _ _ h f))
+  fine-access m kind a h {w} f = rw (unnoted ((kind, a) ∷ []) w (f .ordinary .1)) (on-lt (Fine P) _ _ f (fine-refuseAt _ _ _ h f))
 
   pub fine-load : (m : List ℕ) (a : ℕ) {w : Work} → Fine P w → Fine P (access m kindLoad a w)
   fine-load m a f = fine-access m kindLoad a (λ k b z. f .ten k b z kindLoad a (omega arith) (omega arith)) f
@@ -111,7 +111,7 @@ module _ {P : ℕ → ℕ → ℕ → Type 0} where
   pub fine-transfer : (m : List ℕ) (source destination n : ℕ) {w : Work} → Fine P w → Fine P (transfer m source destination n w)
   unfolding transfer moveOrRefuse
   fine-transfer m source destination n {w} f =
-      rw (unnoted (moveAccesses m source destination n) w (f .count .1))
+      rw (unnoted (upToOutside m (moveAccesses source destination n)) w (f .ordinary .1))
       (on-eq (Fine P) _ _ f
       (cases-eq (moveOutside m source destination n .0) 0
       (λ e. rw (yes-eq e) (fine-append _ f))
@@ -134,9 +134,9 @@ unfolding refuseAt
 refused-with number kind a w e = rw (yes-eq e)
 
 -- refuse an access outside memory
-pub fine-outside : (mem : List ℕ) (kind a : ℕ) (w : Work) → Whole w → w .answer ≡ 0 → length mem ≤ index a
+pub fine-outside : (mem : List ℕ) (kind a : ℕ) (w : Work) → Ordinary w → w .answer ≡ 0 → length mem ≤ index a
     → Fine (AnswerIs outside kind a) (access mem kind a w)
 unfolding access
 fine-outside mem kind a w c e h =
     rw (unnoted ((kind, a) ∷ []) w (c .1), no-lt h, refused-with outside kind a w e)
-    (record { count = c; known = (refl, refl, refl); ten = never-accessing outside kind a (λ z. omega (arith, z)) })
+    (record { ordinary = c; known = (refl, refl, refl); ten = never-accessing outside kind a (λ z. omega (arith, z)) })

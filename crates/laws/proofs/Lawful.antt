@@ -12,12 +12,12 @@ use Rattle.rules.specs.Tests.{pick, ifLt, ifLe, ifEq}
 use Rattle.rules.specs.Words.{index, offset, selector, atByte, atWord, byteOf, withByte}
 use Rattle.rules.specs.Registers.{registers}
 use Rattle.rules.specs.Memory.{Store, word, bytes}
-use Rattle.rules.specs.Work.{Access, Trace, untraced, traced, Work, put, raise, lower, gotoSNP, putCore, putSystem, putBoth, outside, stop, kindFetch, kindLoad, kindStore, refuse, append, attempted, wordAt, byteAt, access, fetchByte, readWord, storeWord, storeByte, rIndexWord, rIndexByte, wIndexWord, moveOutside, moveAccesses, moveOrRefuse, transfer}
+use Rattle.rules.specs.Work.{Access, Trace, untraced, traced, Work, put, raise, lower, gotoSNP, putCore, putSystem, putBoth, outside, stop, kindFetch, kindLoad, kindStore, refuse, append, attempted, wordAt, byteAt, access, fetchByte, readWord, storeWord, storeByte, rIndexWord, rIndexByte, wIndexWord, firstOutside, upToOutside, moveAccesses, moveOutside, moveOrRefuse, transfer}
 use Rattle.rules.specs.declared.Core.{Core}
 use Rattle.rules.specs.declared.Attempt.{Attempt}
 use Rattle.rules.specs.declared.Both.{Both}
 use Rattle.rules.proofs.Tests.{yes-lt, no-lt, yes-eq, no-eq, cases-lt, cases-eq}
-use Rattle.laws.specs.Alike.{Whole, StoreInside, Unrefused, Alike, beyond, refused, same}
+use Rattle.laws.specs.Alike.{Ordinary, StoreInside, Unrefused, Alike, beyond, refused, same}
 use Rattle.laws.specs.Listed.{retrace, Listed}
 use Rattle.laws.proofs.Fine.{Fine, Turns, Accessing, AnswerIs, never-turns, never-accessing, proper-access, unnoted, refused-with, fine-outside, fine-put, fine-putCore, fine-putSystem, fine-refuse, fine-append, fine-access, fine-transfer}
 use Rattle.laws.proofs.Calm.{any-fine, inside-same}
@@ -29,7 +29,7 @@ use Rattle.laws.proofs.Appended.{word-appended, inside-snoc}
 pub record Lawful (A : ℕ → Type 0) (w : Work) (f : Trace → List ℕ → Work) : Type 1 where
   pub keeps : (P : ℕ → ℕ → ℕ → Type 0) → ((n : ℕ) → A n → Turns P n) → (mem : List ℕ) → Fine P w → Fine P (f untraced mem)
   pub alike : (m x : List ℕ) → length m < 2 ^ 30 → Unrefused (length m) w → Alike (length m) (f untraced m) (f untraced (m ++ x))
-  pub lists : (mem : List ℕ) → Whole w → (made : List Access) → Listed (length mem) w made (f untraced mem) (f (traced made) mem)
+  pub lists : (mem : List ℕ) → Ordinary w → (made : List Access) → Listed (length mem) w made (f untraced mem) (f (traced made) mem)
 
 -- keep the laws from any work
 pub record Law (A : ℕ → Type 0) (h : List ℕ → Work → Work) : Type 1 where
@@ -40,42 +40,42 @@ law l = record { at = l }
 
 -- apply the first law to one property of the answer
 pub kept : {P : ℕ → ℕ → ℕ → Type 0} {h : List ℕ → Work → Work} → Law (Turns P) h → (m : List ℕ) {w : Work} → Fine P w → Fine P (h m w)
-kept {P} {h} l m {w} f = subst (λ (v : Work). Fine P (h m v)) (plain w (f .count .1)) (l .at w .keeps P (λ n t. t) m f)
+kept {P} {h} l m {w} f = subst (λ (v : Work). Fine P (h m v)) (plain w (f .ordinary .1)) (l .at w .keeps P (λ n t. t) m f)
 
 module _ {A : ℕ → Type 0} where
   -- ---- one after the other
 
   -- once refused, the refusal stays
-  stays : {h : List ℕ → Work → Work} → Law A h → (mem : List ℕ) (w : Work) → (w .answer ≡ 0 → ⊥) → Whole w
+  stays : {h : List ℕ → Work → Work} → Law A h → (mem : List ℕ) (w : Work) → (w .answer ≡ 0 → ⊥) → Ordinary w
       → Fine (AnswerIs (w .answer) (w .kind) (w .address)) (h mem w)
   stays {h} l mem w n c =
       subst (λ (v : Work). Fine (AnswerIs (w .answer) (w .kind) (w .address)) (h mem v)) (plain w (c .1))
-      (l .at w .keeps (AnswerIs _ _ _) (λ k z. never-turns (w .answer) (w .kind) (w .address) n k) mem (record { count = c; known = (refl, refl, refl); ten = never-accessing _ _ _ n }))
+      (l .at w .keeps (AnswerIs _ _ _) (λ k z. never-turns (w .answer) (w .kind) (w .address) n k) mem (record { ordinary = c; known = (refl, refl, refl); ten = never-accessing _ _ _ n }))
 
   -- lift the second law from the same work to works that are alike
   lift : {h : List ℕ → Work → Work} → Law A h → (m x : List ℕ) → length m < 2 ^ 30 → {w w′ : Work} → Alike (length m) w w′ → Alike (length m) (h m w) (h (m ++ x) w′)
   lift l m x small {w} {w′} (beyond e c t) =
       let f = stays l m w (λ z. omega (arith, z, e)) c in
-      beyond (f .known .0 ∙ e) (f .count) (record { least = rw (f .known .1) (t .least); most = rw (f .known .1) (t .most); away = rw (f .known .2) (t .away) })
+      beyond (f .known .0 ∙ e) (f .ordinary) (record { least = rw (f .known .1) (t .least); most = rw (f .known .1) (t .most); away = rw (f .known .2) (t .away) })
   lift l m x small {w} {w′} (refused n o e c c′) =
       let f = stays l m w n c in
       let f′ = stays l (m ++ x) w′ (λ z. n (e ∙ z)) c′ in
-      refused (λ z. n (sym (f .known .0) ∙ z)) (λ z. o (sym (f .known .0) ∙ z)) (f .known .0 ∙ e ∙ sym (f′ .known .0)) (f .count) (f′ .count)
+      refused (λ z. n (sym (f .known .0) ∙ z)) (λ z. o (sym (f .known .0) ∙ z)) (f .known .0 ∙ e ∙ sym (f′ .known .0)) (f .ordinary) (f′ .ordinary)
   lift {h} l m x small {w} (same e u) =
       subst (λ (v : Work). Alike (length m) (h m w) (h (m ++ x) v)) e
-      (subst (λ (v : Work). Alike (length m) (h m v) (h (m ++ x) v)) (plain w (u .count .1)) (l .at w .alike m x small u))
+      (subst (λ (v : Work). Alike (length m) (h m v) (h (m ++ x) v)) (plain w (u .ordinary .1)) (l .at w .alike m x small u))
 
   infixl 5 _then_
   pub _then_ : {w : Work} {f : Trace → List ℕ → Work} {h : List ℕ → Work → Work} → Lawful A w f → Law A h → Lawful A w (λ t mem. h mem (f t mem))
   _then_ {w} {f} {h} g l =
       record {
-        keeps = λ P t mem z. let y = g .keeps P t mem z in subst (λ (v : Work). Fine P (h mem v)) (plain (f untraced mem) (y .count .1)) (l .at (f untraced mem) .keeps P t mem y);
+        keeps = λ P t mem z. let y = g .keeps P t mem z in subst (λ (v : Work). Fine P (h mem v)) (plain (f untraced mem) (y .ordinary .1)) (l .at (f untraced mem) .keeps P t mem y);
         alike = λ m x small u. lift l m x small (g .alike m x small u);
         lists = λ mem c made.
             let first = g .lists mem c made in
-            let whole = g .keeps (λ n k a. Unit {0}) (λ n z k a y kind address p. tt) mem (any-fine w c) .count in
+            let whole = g .keeps (λ n k a. Unit {0}) (λ n z k a y kind address p. tt) mem (any-fine w c) .ordinary in
             listed-then w made (f untraced mem) (f (traced made) mem) (h mem) first whole (l .at (f untraced mem) .lists mem whole (made ++ first .more)) (λ n. stays l mem (f untraced mem) n whole)
-            (λ n. g .keeps (AnswerIs (w .answer) (w .kind) (w .address)) (λ k z. never-turns _ _ _ n k) mem (record { count = c; known = (refl, refl, refl); ten = never-accessing _ _ _ n }) .known .0);
+            (λ n. g .keeps (AnswerIs (w .answer) (w .kind) (w .address)) (λ k z. never-turns _ _ _ n k) mem (record { ordinary = c; known = (refl, refl, refl); ten = never-accessing _ _ _ n }) .known .0);
       }
 
   -- work that is not changed
@@ -113,7 +113,7 @@ module _ {A : ℕ → Type 0} where
   on-registers g s e f r =
       law (λ w. record {
         keeps = λ P t mem z. s P (retrace untraced w) (fine-plain w z);
-        alike = λ m x small u. same refl (record { none = e (retrace untraced w) ∙ u .none; inside = rw (f (retrace untraced w)) (u .inside); count = s _ (retrace untraced w) (any-fine (retrace untraced w) (u .count .0, refl)) .count });
+        alike = λ m x small u. same refl (record { none = e (retrace untraced w) ∙ u .none; inside = rw (f (retrace untraced w)) (u .inside); ordinary = s _ (retrace untraced w) (any-fine (retrace untraced w) (u .ordinary .0, refl)) .ordinary });
         lists = λ mem c made. listed-none w made (g w) (r untraced w) (r (traced made) w) (e w);
       })
 
@@ -147,7 +147,7 @@ module _ {A : ℕ → Type 0} where
   lawful-refuse number allowed n =
       law (λ w. record {
         keeps = λ P t mem f. fine-refuse number (n .1) (t number allowed) (fine-plain w f);
-        alike = λ m x small u. rw (refused-with number 0 0 (retrace untraced w) (u .none)) (refused (n .0) (n .1) refl (u .count .0, refl) (u .count .0, refl));
+        alike = λ m x small u. rw (refused-with number 0 0 (retrace untraced w) (u .none)) (refused (n .0) (n .1) refl (u .ordinary .0, refl) (u .ordinary .0, refl));
         lists = λ mem c made. listed-refuse number (n .1) w made;
       })
 
@@ -171,12 +171,12 @@ same-word m x a w u h = word-appended m x (w .stored) (index a) (u .inside) h
 alike-append : {size : ℕ} (s : Store) → StoreInside size s → (w : Work) → Unrefused size w → Alike size (append s w) (append s w)
 unfolding append
 alike-append {size} s i w u =
-    rw (yes-eq (u .none)) (same refl (record { none = u .none; inside = inside-snoc size (w .stored) s (u .inside) i; count = u .count }))
+    rw (yes-eq (u .none)) (same refl (record { none = u .none; inside = inside-snoc size (w .stored) s (u .inside) i; ordinary = u .ordinary }))
 
 -- answer 10 for an access outside memory
 beyond-with : {size : ℕ} (kind a : ℕ) → kindFetch ≤ kind → kind ≤ kindStore → size ≤ index a → {v v′ : Work} → Fine (AnswerIs outside kind a) v → Alike size v v′
 beyond-with kind a low high h f =
-    beyond (f .known .0) (f .count) (record { least = rw (f .known .1) low; most = rw (f .known .1) high; away = rw (f .known .2) h })
+    beyond (f .known .0) (f .ordinary) (record { least = rw (f .known .1) low; most = rw (f .known .1) high; away = rw (f .known .2) h })
 
 -- the refusal of an access of this kind is allowed: of a load or a store always, of a fetch where A has 10
 abbrev Allowed : (ℕ → Type 0) → ℕ → ℕ → Type 1
@@ -196,7 +196,7 @@ module _ {A : ℕ → Type 0} where
   access-then : (kind a : ℕ) → kindFetch ≤ kind → kind ≤ kindStore → Allowed A kind a → (w : Work) (g : List ℕ → Work → Work)
       → ((P : ℕ → ℕ → ℕ → Type 0) → ((n : ℕ) → A n → Turns P n) → (mem : List ℕ) (v : Work) → Fine P v → Fine P (g mem v))
       → ((m x : List ℕ) → length m < 2 ^ 30 → Unrefused (length m) w → index a < length m → Alike (length m) (g m (retrace untraced w)) (g (m ++ x) (retrace untraced w)))
-      → ((mem : List ℕ) (v : Work) → Whole v → (made : List Access) → Listed (length mem) v made (g mem (retrace untraced v)) (g mem (retrace (traced made) v)))
+      → ((mem : List ℕ) (v : Work) → Ordinary v → (made : List Access) → Listed (length mem) v made (g mem (retrace untraced v)) (g mem (retrace (traced made) v)))
       → Lawful A w (λ t mem. g mem (access mem kind a (retrace t w)))
   access-then kind a low high may w g k one each =
       record {
@@ -204,14 +204,14 @@ module _ {A : ℕ → Type 0} where
         alike = λ m x small u.
             cases-lt (index a) (length m)
             (λ h. rw (inside-same m kind a (retrace untraced w) refl h, inside-same (m ++ x) kind a (retrace untraced w) refl (longer m x (index a) h)) (one m x small u h))
-            (λ h. beyond-with kind a low high h (k _ (λ n z. never-turns outside kind a (λ z. omega (arith, z)) n) m _ (fine-outside m kind a (retrace untraced w) (u .count .0, refl) (u .none) h)));
+            (λ h. beyond-with kind a low high h (k _ (λ n z. never-turns outside kind a (λ z. omega (arith, z)) n) m _ (fine-outside m kind a (retrace untraced w) (u .ordinary .0, refl) (u .none) h)));
         lists = λ mem c made.
             let first = listed-access mem kind a w made in
             let v = access mem kind a (retrace untraced w) in
-            let whole = fine-access mem kind a (λ i b z. tt) (any-fine (retrace untraced w) (c .0, refl)) .count in
+            let whole = fine-access mem kind a (λ i b z. tt) (any-fine (retrace untraced w) (c .0, refl)) .ordinary in
             listed-then w made v (access mem kind a (retrace (traced made) w)) (g mem) first whole (each mem v whole (made ++ first .more))
-            (λ n. k _ (λ i z. never-turns _ _ _ n i) mem v (record { count = whole; known = (refl, refl, refl); ten = never-accessing _ _ _ n }))
-            (λ n. fine-access {P = AnswerIs (w .answer) (w .kind) (w .address)} mem kind a (λ i b z. absurd (n (sym (z .0)))) (record { count = (c .0, refl); known = (refl, refl, refl); ten = never-accessing (w .answer) (w .kind) (w .address) n }) .known .0);
+            (λ n. k _ (λ i z. never-turns _ _ _ n i) mem v (record { ordinary = whole; known = (refl, refl, refl); ten = never-accessing _ _ _ n }))
+            (λ n. fine-access {P = AnswerIs (w .answer) (w .kind) (w .address)} mem kind a (λ i b z. absurd (n (sym (z .0)))) (record { ordinary = (c .0, refl); known = (refl, refl, refl); ten = never-accessing (w .answer) (w .kind) (w .address) n }) .known .0);
       }
 
   -- access a, then do next with a value of the word there
@@ -220,7 +220,7 @@ module _ {A : ℕ → Type 0} where
   unfolding wordAt
   on-access kind a low high may value {next} l w =
       access-then kind a low high may w (λ mem. next mem (value (wordAt mem a w)))
-      (λ P t mem v f. subst (λ (u : Work). Fine P (next mem (value (wordAt mem a w)) u)) (plain v (f .count .1)) (l _ .at v .keeps P t mem f))
+      (λ P t mem v f. subst (λ (u : Work). Fine P (next mem (value (wordAt mem a w)) u)) (plain v (f .ordinary .1)) (l _ .at v .keeps P t mem f))
       (λ m x small u h. rw (same-word m x a w u h) (l (value (wordAt m a w)) .at w .alike m x small u))
       (λ mem v c made. l (value (wordAt mem a w)) .at v .lists mem c made)
 
@@ -271,7 +271,7 @@ module _ (m x : List ℕ) (small : length m < 2 ^ 30) where
   next-byte a n h f = cases-lt 0 n (λ p. omega (arith, f p)) (λ z. omega arith)
 
   moves : (s d n : ℕ) → Moves s d n
-  unfolding moveOutside
+  unfolding moveOutside moveAccesses firstOutside
   moves s d zero = fits refl refl (λ z. omega (arith, z)) (λ z. omega (arith, z))
   moves s d (suc n) =
       cases-lt (index s) (length m)
@@ -288,7 +288,7 @@ module _ (m x : List ℕ) (small : length m < 2 ^ 30) where
   alike-transfer : (s d n : ℕ) (w : Work) → Unrefused (length m) w → Alike (length m) (transfer m s d n w) (transfer (m ++ x) s d n w)
   unfolding transfer moveOrRefuse
   alike-transfer s d n w u =
-      rw (unnoted (moveAccesses m s d n) w (u .count .1), unnoted (moveAccesses (m ++ x) s d n) w (u .count .1))
+      rw (unnoted (upToOutside m (moveAccesses s d n)) w (u .ordinary .1), unnoted (upToOutside (m ++ x) (moveAccesses s d n)) w (u .ordinary .1))
       (cases-eq n 0
       (λ e. rw (yes-eq e, yes-eq e) (same refl u))
       (λ e. rw (no-eq e, no-eq e) (go e (moves s d n))))
@@ -299,7 +299,7 @@ module _ (m x : List ℕ) (small : length m < 2 ^ 30) where
       go e (leaves l h o) =
           rw (no-eq {a = moveOutside m s d n .0} {b = 0} (λ z. omega (arith, z, l)))
           (beyond-with _ _ l h o (rw (refused-with outside (moveOutside m s d n .0) (moveOutside m s d n .1) w (u .none))
-          (record { count = u .count; known = (refl, refl, refl); ten = never-accessing outside _ _ (λ z. omega (arith, z)) })))
+          (record { ordinary = u .ordinary; known = (refl, refl, refl); ten = never-accessing outside _ _ (λ z. omega (arith, z)) })))
 
 pub lawful-transfer : {A : ℕ → Type 0} (s d n : ℕ) → Law A (λ mem. transfer mem s d n)
 lawful-transfer s d n =

@@ -1,20 +1,21 @@
--- Every definition of Step.antt (one step) is lawful. So THE LONGER MEMORY: of a step in a memory, and in that memory with words appended, the first answers
--- 10 for an access outside, or both answer the same number, and where that is 0, their registers and stores are the same.
-use mathlib.Core.Path.{_≡_, refl, sym, ap, _∙_}
-use mathlib.Core.List.{List, [], _∷_, _++_}
+-- Every definition of Step.antt (one step) is lawful. So THE LONGER MEMORY: of a step in a memory, and in that memory with words appended, the first
+-- answers 10 for an access outside, or both answer the same number, and where that is 0, their registers and stores are the same. And THE LIST: the
+-- first of a step's accesses that is outside memory is the one that its answer tells.
+use mathlib.Core.Path.{_≡_, refl, ap, _∙_}
+use mathlib.Core.List.{List, [], _++_}
 use Prim.Native.Nat.{ℕ, _/_, _^_, _≤_, _<_}
 use native.Mathlib.Omega.{arith}
 use lib.ListN.{length, getD}
 use Rattle.rules.specs.Words.{index}
 use Rattle.rules.specs.Registers.{registers, iptrReg}
-use Rattle.rules.specs.Work.{Access, accessesOf, begin, beginTraced, firstOutside, reg, kindFetch, outside, halted, idle, stop, unlisted, Work}
+use Rattle.rules.specs.Work.{accessesOf, begin, beginTraced, firstOutside, reg, kindFetch, outside, halted, idle, stop, unlisted, Work}
 use Rattle.rules.specs.Timers.{timerDue, timerReady}
 use Rattle.rules.specs.Channels.{requestFrom, requested}
 use Rattle.rules.specs.Step.{haltIfAsked, haltOnError, fetched, execute, decode, instruction, instructionUnlessIdle, timersFirst, channelsFirst, choose, step, accesses}
-use Rattle.rules.proofs.Tests.{yes-lt, no-lt, yes-eq, no-eq}
 use Rattle.laws.specs.Alike.{Alike}
-use Rattle.laws.specs.Listed.{AllInside, outsideOf, Ends, stayed, left, Listed}
+use Rattle.laws.specs.Listed.{toldOutside, told, Listed}
 use Rattle.laws.proofs.Fine.{Fine, Turns, AnswerIs, never-turns, fine-outside}
+use Rattle.laws.proofs.Listed.{first-ends}
 use Rattle.laws.proofs.Lawful.{Law, law, kept, _then_, unchanged, lawful-eq, lawful-fetch, lawful-lt, lawful-pick, lawful-put, lawful-putCore, lawful-raise, lawful-refuse}
 use Rattle.laws.proofs.LawfulScheduling.{lawful-actOnSNP}
 use Rattle.laws.proofs.LawfulTimers.{lawful-handleTimerRequest}
@@ -72,27 +73,13 @@ module _ {A : ℕ → Type 0} where
 
 -- of a machine of 45 registers
 pub step-alike : (m x : List ℕ) → length m < 2 ^ 30 → (r : List ℕ) → length r ≡ registers → Alike (length m) (step m (begin r)) (step (m ++ x) (begin r))
-step-alike m x small r h = lawful-step {A = λ n. Unit {0}} tt tt tt tt tt .at (begin r) .alike m x small (record { none = refl; inside = tt; count = (h, refl) })
+step-alike m x small r h = lawful-step {A = λ n. Unit {0}} tt tt tt tt tt .at (begin r) .alike m x small (record { none = refl; inside = tt; ordinary = (h, refl) })
 
 pub step-listed : (mem r : List ℕ) → length r ≡ registers → Listed (length mem) (begin r) [] (step mem (begin r)) (step mem (beginTraced r))
 step-listed mem r h = lawful-step {A = λ n. Unit {0}} tt tt tt tt tt .at (begin r) .lists mem (h, refl) []
 
--- the first access outside memory of a list is the one that refused the work
-first-ends : (m : List ℕ) (xs : List Access) (w : Work) → Ends (length m) xs (w .answer) (w .kind) (w .address) → firstOutside m xs ≡ outsideOf w
-unfolding firstOutside
-first-ends m xs w (stayed n i) = all-inside xs i ∙ sym (no-eq n (w .kind, w .address) (0, 0))
-  where
-    all-inside : (ys : List Access) → AllInside (length m) ys → firstOutside m ys ≡ (0, 0)
-    all-inside [] i = refl
-    all-inside (y ∷ ys) i = rw (yes-lt (i .0)) (all-inside ys (i .1))
-first-ends m xs w (left e before q i o) = ap (firstOutside m) q ∙ last-outside before i ∙ sym (yes-eq e (w .kind, w .address) (0, 0))
-  where
-    last-outside : (ys : List Access) → AllInside (length m) ys → firstOutside m (ys ++ ((w .kind, w .address) ∷ [])) ≡ (w .kind, w .address)
-    last-outside [] i = rw (no-lt o)
-    last-outside (y ∷ ys) i = rw (yes-lt (i .0)) (last-outside ys (i .1))
-
 -- THE LIST: the first of a step's accesses that is outside memory is the one that its answer tells
-pub first-outside : (mem r : List ℕ) → length r ≡ registers → firstOutside mem (accesses mem r) ≡ outsideOf (step mem (begin r))
+pub first-outside : (mem r : List ℕ) → length r ≡ registers → firstOutside mem (accesses mem r) ≡ toldOutside (told (step mem (begin r)))
 unfolding accesses
 first-outside mem r h =
     let l = step-listed mem r h in

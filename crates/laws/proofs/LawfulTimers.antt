@@ -57,14 +57,14 @@ module _ (walk : ℕ → List ℕ → Work → Work) (walks : (A : ℕ → Type 
     only : (mem : List ℕ) {size : ℕ} → Unrefused size w → Only (walk (length mem + 2) mem w .answer) 0 0
     only mem u =
         kept {P = Only} (walks _ (λ k a z kind address p n o. refl) (length mem + 2)) mem
-        (record { count = u .count; known = λ n o. absurd (n (u .none)); ten = λ k a z kind address low high n o. absurd (o refl) }) .known
+        (record { ordinary = u .ordinary; known = λ n o. absurd (n (u .none)); ten = λ k a z kind address low high n o. absurd (o refl) }) .known
 
     go : (m x : List ℕ) → Unrefused (length m) w → Alike (length m) (walk (length m + 2) m w) (walk (length m + 2) (m ++ x) w)
         → Alike (length m) (walk (length m + 2) m w) (walk (length (m ++ x) + 2) (m ++ x) w)
     go m x u (beyond e c t) = beyond e c t
     go m x u (refused n o e c c′) =
         let z = only m u n o in
-        refused n o (z ∙ sym (ring m x w u z)) c (kept (walks _ (λ k a z kind address p. tt) (length (m ++ x) + 2)) (m ++ x) (any-fine w (u .count)) .count)
+        refused n o (z ∙ sym (ring m x w u z)) c (kept (walks _ (λ k a z kind address p. tt) (length (m ++ x) + 2)) (m ++ x) (any-fine w (u .ordinary)) .ordinary)
     go m x u (same e v) =
         same (e ∙ sym (more (length m + 2) (length (m ++ x) + 2) (omega (arith, length-append m x)) (m ++ x) w (ap (λ (y : Work). y .answer) (sym e) ∙ v .none))) v
 
@@ -90,8 +90,8 @@ module _ (time previous : ℕ) where
       → insertWalk m (length m + 2) time previous w .answer ≡ stop → insertWalk (m ++ x) (length (m ++ x) + 2) time previous w .answer ≡ stop
   unfolding insertEnds
   insert-again m x w u =
-      walk-longer m x (insert-walk m time w (u .count) (u .none)) (insert-walk (m ++ x) time w (u .count) (u .none)) u
-      (λ p e. let g = insert-goes m time w (u .count) (u .none) p e in
+      walk-longer m x (insert-walk m time w (u .ordinary) (u .none)) (insert-walk (m ++ x) time w (u .ordinary) (u .none)) u
+      (λ p e. let g = insert-goes m time w (u .ordinary) (u .none) p e in
       rw (ne-eqb p notProcess (g .0), lt-leb (length (m ++ x)) (index (atWord p timeS)) (longer m x _ (g .1)), same-word m x (atWord p timeS) w u (g .1), g .2)
       (lt-leb (length (m ++ x)) (index (atWord p tlinkS)) (longer m x _ (g .3))))
       previous
@@ -110,8 +110,8 @@ module _ (previous : ℕ) where
       → deleteWalk m (length m + 2) previous w .answer ≡ stop → deleteWalk (m ++ x) (length (m ++ x) + 2) previous w .answer ≡ stop
   unfolding deleteEnds
   delete-again m x w u =
-      walk-longer m x (delete-walk m w (u .count) (u .none)) (delete-walk (m ++ x) w (u .count) (u .none)) u
-      (λ p e. let g = delete-goes m w (u .count) (u .none) p e in
+      walk-longer m x (delete-walk m w (u .ordinary) (u .none)) (delete-walk (m ++ x) w (u .ordinary) (u .none)) u
+      (λ p e. let g = delete-goes m w (u .ordinary) (u .none) p e in
       rw (ne-eqb p (wptr w) (g .0)) (lt-leb (length (m ++ x)) (index (atWord p tlinkS)) (longer m x _ (g .1))))
       previous
 

@@ -1,4 +1,5 @@
--- Work that lists its accesses: of put, refuse, load, store and move, and of one after the other. The list tells whether the answer is 10, and for which access.
+-- Work that lists its accesses: of put, refuse, load, store and move, and of one after the other. The list tells whether the answer is 10, and for
+-- which access.
 use mathlib.Core.Path.{_≡_, refl, sym, ap, subst, _∙_}
 use mathlib.Core.List.{List, [], _∷_, _++_, append-assoc, append-nil}
 use Prim.Native.Nat.{ℕ, zero, suc, _≤_, _<_}
@@ -7,10 +8,10 @@ use lib.ListN.{length}
 use Rattle.rules.specs.Tests.{ifLt, ifEq}
 use Rattle.rules.specs.Words.{index, atByte, offset}
 use Rattle.rules.specs.Memory.{Store, bytes}
-use Rattle.rules.specs.Work.{Access, Trace, untraced, traced, Work, note, outside, kindLoad, kindStore, refuseAt, refuse, append, access, moveOutside, moveAccesses, moveOrRefuse, transfer}
+use Rattle.rules.specs.Work.{Access, Trace, untraced, traced, Work, note, outside, kindLoad, kindStore, refuseAt, refuse, append, access, firstOutside, upToOutside, moveOutside, moveAccesses, moveOrRefuse, transfer}
 use Rattle.rules.proofs.Tests.{yes-lt, no-lt, yes-eq, no-eq, cases-lt, cases-eq}
-use Rattle.laws.specs.Alike.{Whole, Unrefused}
-use Rattle.laws.specs.Listed.{retrace, AllInside, Ends, stayed, left, Listed}
+use Rattle.laws.specs.Alike.{Ordinary, Unrefused}
+use Rattle.laws.specs.Listed.{retrace, AllInside, toldOutside, told, Ends, stayed, left, Listed}
 use Rattle.laws.proofs.Fine.{Fine, AnswerIs, refused-with}
 
 -- ---- work that lists nothing is itself
@@ -19,10 +20,10 @@ pub plain : (w : Work) → w .trace ≡ untraced → retrace untraced w ≡ w
 plain w e = sym (ap (λ (t : Trace). retrace t w) e)
 
 pub fine-plain : {P : ℕ → ℕ → ℕ → Type 0} (w : Work) → Fine P w → Fine P (retrace untraced w)
-fine-plain {P} w f = subst (Fine P) (sym (plain w (f .count .1))) f
+fine-plain {P} w f = subst (Fine P) (sym (plain w (f .ordinary .1))) f
 
 pub unrefused-plain : {size : ℕ} (w : Work) → Unrefused size w → Unrefused size (retrace untraced w)
-unrefused-plain {size} w u = subst (Unrefused size) (sym (plain w (u .count .1))) u
+unrefused-plain {size} w u = subst (Unrefused size) (sym (plain w (u .ordinary .1))) u
 
 -- ---- lists of accesses, one after the other
 
@@ -43,7 +44,7 @@ ends-free e (stayed n q) = q
 ends-free e (left o before q i z) = absurd (omega (arith, e, o))
 
 -- after work that lists its accesses comes other such work; where the first is refused, the second lists nothing and keeps the refusal
-pub listed-then : {size : ℕ} (w : Work) (made : List Access) (v v′ : Work) (h : Work → Work) (first : Listed size w made v v′) → Whole v
+pub listed-then : {size : ℕ} (w : Work) (made : List Access) (v v′ : Work) (h : Work → Work) (first : Listed size w made v v′) → Ordinary v
     → Listed size v (made ++ first .more) (h (retrace untraced v)) (h (retrace (traced (made ++ first .more)) v))
     → ((v .answer ≡ 0 → ⊥) → Fine (AnswerIs (v .answer) (v .kind) (v .address)) (h v)) → ((w .answer ≡ 0 → ⊥) → v .answer ≡ w .answer)
     → Listed size w made (h v) (h v′)
@@ -131,12 +132,12 @@ listed-access m kind a w made =
 
 -- the accesses of a move: all are inside memory, or the last is the first outside
 data Moved (m : List ℕ) (s d n : ℕ) : Type 0 where
-  whole : moveOutside m s d n .0 ≡ 0 → AllInside (length m) (moveAccesses m s d n) → Moved m s d n
-  broken : (moveOutside m s d n .0 ≡ 0 → ⊥) → (before : List Access) → moveAccesses m s d n ≡ before ++ (moveOutside m s d n ∷ []) → AllInside (length m) before
+  whole : moveOutside m s d n .0 ≡ 0 → AllInside (length m) (upToOutside m (moveAccesses s d n)) → Moved m s d n
+  broken : (moveOutside m s d n .0 ≡ 0 → ⊥) → (before : List Access) → upToOutside m (moveAccesses s d n) ≡ before ++ (moveOutside m s d n ∷ []) → AllInside (length m) before
       → length m ≤ index (moveOutside m s d n .1) → Moved m s d n
 
 moved : (m : List ℕ) (s d n : ℕ) → Moved m s d n
-unfolding moveOutside moveAccesses
+unfolding moveOutside moveAccesses firstOutside upToOutside
 moved m s d zero = whole refl tt
 moved m s d (suc n) =
     cases-lt (index s) (length m)
@@ -158,8 +159,8 @@ listed-transfer m s d n w made =
     cases-eq n 0
     (λ z. rw (yes-eq z, yes-eq z) (listed-same w made refl refl))
     (λ z. cases-eq (w .answer) 0
-    (λ e. rw (no-eq z, no-eq z) (subst moves (sym (noted (moveAccesses m s d n) w made e)) (go e (moved m s d n))))
-    (λ e. rw (no-eq z, no-eq z) (subst moves (sym (unnoted-refused (moveAccesses m s d n) w made e)) (refused-move e))))
+    (λ e. rw (no-eq z, no-eq z) (subst moves (sym (noted (upToOutside m (moveAccesses s d n)) w made e)) (go e (moved m s d n))))
+    (λ e. rw (no-eq z, no-eq z) (subst moves (sym (unnoted-refused (upToOutside m (moveAccesses s d n)) w made e)) (refused-move e))))
   where
     first : Access
     first = moveOutside m s d n
@@ -168,16 +169,30 @@ listed-transfer m s d n w made =
     moves v = Listed (length m) w made (moveOrRefuse m first s d n (retrace untraced w)) (moveOrRefuse m first s d n v)
 
     go : w .answer ≡ 0 → Moved m s d n
-        → Listed (length m) w made (moveOrRefuse m first s d n (retrace untraced w)) (moveOrRefuse m first s d n (retrace (traced (made ++ moveAccesses m s d n)) w))
+        → Listed (length m) w made (moveOrRefuse m first s d n (retrace untraced w)) (moveOrRefuse m first s d n (retrace (traced (made ++ upToOutside m (moveAccesses s d n))) w))
     go e (whole q i) =
         rw (yes-eq q, yes-eq q, yes-eq e, yes-eq e)
-        (record { more = moveAccesses m s d n; same = refl; none = λ n. absurd (n e); ends = λ z. stayed (λ o. omega (arith, e, o)) i })
+        (record { more = upToOutside m (moveAccesses s d n); same = refl; none = λ n. absurd (n e); ends = λ z. stayed (λ o. omega (arith, e, o)) i })
     go e (broken q before p i o) =
-        rw (no-eq q, no-eq q, refused-with outside (first .0) (first .1) (retrace untraced w) e, refused-with outside (first .0) (first .1) (retrace (traced (made ++ moveAccesses m s d n)) w) e)
-        (record { more = moveAccesses m s d n; same = refl; none = λ n. absurd (n e); ends = λ z. left refl before p i o })
+        rw (no-eq q, no-eq q, refused-with outside (first .0) (first .1) (retrace untraced w) e, refused-with outside (first .0) (first .1) (retrace (traced (made ++ upToOutside m (moveAccesses s d n))) w) e)
+        (record { more = upToOutside m (moveAccesses s d n); same = refl; none = λ n. absurd (n e); ends = λ z. left refl before p i o })
 
     refused-move : (w .answer ≡ 0 → ⊥) → Listed (length m) w made (moveOrRefuse m first s d n (retrace untraced w)) (moveOrRefuse m first s d n (retrace (traced made) w))
     refused-move e =
         cases-eq (first .0) 0
         (λ q. rw (yes-eq q, yes-eq q, no-eq e, no-eq e) (listed-same w made refl refl))
         (λ q. rw (no-eq q, no-eq q) (listed-same w made (refuse-again outside (first .0) (first .1) (retrace untraced w) e) (refuse-again outside (first .0) (first .1) (retrace (traced made) w) e)))
+
+-- the first access outside memory of a list is the one that refused the work
+pub first-ends : (m : List ℕ) (xs : List Access) (w : Work) → Ends (length m) xs (w .answer) (w .kind) (w .address) → firstOutside m xs ≡ toldOutside (told w)
+unfolding firstOutside
+first-ends m xs w (stayed n i) = all-inside xs i ∙ sym (no-eq n (w .kind, w .address) (0, 0))
+  where
+    all-inside : (ys : List Access) → AllInside (length m) ys → firstOutside m ys ≡ (0, 0)
+    all-inside [] i = refl
+    all-inside (y ∷ ys) i = rw (yes-lt (i .0)) (all-inside ys (i .1))
+first-ends m xs w (left e before q i o) = ap (firstOutside m) q ∙ last-outside before i ∙ sym (yes-eq e (w .kind, w .address) (0, 0))
+  where
+    last-outside : (ys : List Access) → AllInside (length m) ys → firstOutside m (ys ++ ((w .kind, w .address) ∷ [])) ≡ (w .kind, w .address)
+    last-outside [] i = rw (no-lt o)
+    last-outside (y ∷ ys) i = rw (yes-lt (i .0)) (last-outside ys (i .1))

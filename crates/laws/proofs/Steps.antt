@@ -10,7 +10,7 @@ use Rattle.rules.specs.Words.{index}
 use Rattle.rules.specs.Registers.{registers, wdescReg, areg}
 use Rattle.rules.specs.Work.{Work, reg, put, lower, priority, stop}
 use Rattle.rules.specs.Timers.{tptrLoc, insertFirstStep, deleteFirstStep}
-use Rattle.laws.specs.Alike.{Whole}
+use Rattle.laws.specs.Alike.{Ordinary}
 use Rattle.laws.specs.Stops.{going, insertStarted, deleteStarted, insertStops, deleteStops}
 use Rattle.laws.proofs.Lawful.{kept, lawful-lower, lawful-wIndexWord}
 use Rattle.laws.proofs.LawfulTimerQueues.{lawful-insertWalk}
@@ -30,12 +30,12 @@ lower-answer : (k mask : ℕ) (w : Work) → lower k mask w .answer ≡ w .answe
 unfolding lower put
 lower-answer k mask w = refl
 
-module _ (m : List ℕ) (w : Work) (count : Whole w) where
-  pub started-count : Whole (insertStarted m w)
-  started-count = kept (lawful-wIndexWord _ _ _) m (kept (lawful-wIndexWord _ _ _) m (any-fine w count)) .count
+module _ (m : List ℕ) (w : Work) (o : Ordinary w) where
+  pub started-ordinary : Ordinary (insertStarted m w)
+  started-ordinary = kept (lawful-wIndexWord _ _ _) m (kept (lawful-wIndexWord _ _ _) m (any-fine w o)) .ordinary
 
-  pub off-count : Whole (deleteStarted w)
-  off-count = kept (lawful-lower _ _) m (any-fine w count) .count
+  pub off-ordinary : Ordinary (deleteStarted w)
+  off-ordinary = kept (lawful-lower _ _) m (any-fine w o) .ordinary
 
   pub off-answer : w .answer ≡ 0 → deleteStarted w .answer ≡ 0
   off-answer e = lower-answer _ _ w ∙ e
@@ -43,11 +43,11 @@ module _ (m : List ℕ) (w : Work) (count : Whole w) where
   -- and the tests of the places tell it
   pub delete-stops : w .answer ≡ 0 → Tells (deleteStops m w) (deleteFirstStep m w)
   unfolding deleteFirstStep deleteStops
-  delete-stops e = delete-tells m _ off-count (off-answer e) (tptrLoc (priority w))
+  delete-stops e = delete-tells m _ off-ordinary (off-answer e) (tptrLoc (priority w))
 
 pub insert-stops : (m : List ℕ) {w : Work} → Calm w → Tells (insertStops m w) (insertFirstStep m w)
 unfolding insertFirstStep insertStops
 insert-stops m {w} c =
     regroup (going (insertStarted m w)) _ _ (insertFirstStep m w)
     (tells-going (insertStarted m w) (insertFirstStep m w) _ (kept (lawful-wIndexWord _ _ _) m (kept (lawful-wIndexWord _ _ _) m c)) (λ P t f. kept (lawful-insertWalk (t stop) _ _ _) m f)
-    (λ e. insert-tells m (reg areg w) _ (started-count m w (c .count)) e (tptrLoc (priority w))))
+    (λ e. insert-tells m (reg areg w) _ (started-ordinary m w (c .ordinary)) e (tptrLoc (priority w))))

@@ -20,7 +20,7 @@ use Rattle.rules.specs.Channels.{readyStatus, readyContent, handleReadyRequest,
 use Rattle.rules.specs.Operations.{registerOperations, otherOperations, operations, operate}
 use Rattle.rules.specs.declared.Attempt.{Attempt}
 use Rattle.rules.proofs.Tests.{yes-lt, no-lt, yes-eq, no-eq, cases-eq, cases-lt}
-use Rattle.laws.specs.Alike.{Whole}
+use Rattle.laws.specs.Alike.{Ordinary}
 use Rattle.laws.specs.Ring.{isOutside}
 use Rattle.laws.specs.Stops.{Place, going, insertStops, shiftStops, longShiftStops, isMark, unmarked, enbtStops, tinStops, distStops, stateLoaded, markStops, taltwtStops, deleteStops, stopPlaces, canStop, nowhere, readyOrWaiting, channelStatus, requestStops, timerStops}
 use Rattle.laws.proofs.Fine.{fine-load, fine-put, fine-putCore, fine-refuse}
@@ -35,11 +35,11 @@ use Rattle.laws.proofs.Steps.{insert-stops, delete-stops}
 
 -- work that has not been refused
 pub record Begun (w : Work) : Type 0 where
-  pub count : Whole w
+  pub ordinary : Ordinary w
   pub none : w .answer ≡ 0
 
 calm : {w : Work} → Begun w → Calm w
-calm b = calm-none (b .count) (b .none)
+calm b = calm-none (b .ordinary) (b .none)
 
 or-false : (a : Bool) → (a || false) ≡ a
 or-false true = refl
@@ -133,14 +133,14 @@ enbt-link-stops m link {w} b =
 
 enbt-stops : (m : List ℕ) {w : Work} → Begun w → Tells (enbtStops m w) (enbt m w)
 unfolding enbtStops unmarked enbt enbtGuard
-enbt-stops m {w} b = guard ∙ same-stop (enbtGuard m w) (enbt m w) (kept (lawful-enbtGuard (λ k a z kind address p. tt)) m (any-fine w (b .count)) .count) (λ P t f. kept lawful-dropB m f)
+enbt-stops m {w} b = guard ∙ same-stop (enbtGuard m w) (enbt m w) (kept (lawful-enbtGuard (λ k a z kind address p. tt)) m (any-fine w (b .ordinary)) .ordinary) (λ P t f. kept lawful-dropB m f)
   where
     guard : Tells (enbtStops m w) (enbtGuard m w)
     guard =
         cases-eq (reg areg w) 0
         (λ e. rw (yes-eq e, eq-eqb (reg areg w) 0 e) (tells-calm (calm b)))
         (λ e. rw (no-eq e, ne-eqb (reg areg w) 0 e)
-        (tells-read m (atWord (wptr w) tlinkS) (enbtLink m) w _ (b .count) (b .none) (λ P t f. kept (lawful-enbtLink (t stop) _) m f) (enbt-link-stops m _ b)))
+        (tells-read m (atWord (wptr w) tlinkS) (enbtLink m) w _ (b .ordinary) (b .none) (λ P t f. kept (lawful-enbtLink (t stop) _) m f) (enbt-link-stops m _ b)))
 
 dist-link-stops : (m : List ℕ) (link : ℕ) {w : Work} → Begun w → Tells (not (isMark link) && deleteStops m w) (distLink m link w)
 unfolding distLink distSet
@@ -150,7 +150,7 @@ dist-link-stops m link {w} b =
     (λ n. cases-eq link timeSet
     (λ e. rw (no-eq n, yes-eq e, ne-eqb link timeNotSet n, eq-eqb link timeSet e) (tells-calm (kept (lawful-distReady _) m (fine-load m _ (calm b)))))
     (λ k. rw (no-eq n, no-eq k, ne-eqb link timeNotSet n, ne-eqb link timeSet k)
-    (delete-stops m w (b .count) (b .none) ∙ same-stop (deleteFirstStep m w) (put areg 0 (deleteFirstStep m w)) (kept (lawful-deleteFirstStep (λ k a z kind address p. tt)) m (any-fine w (b .count)) .count) (λ P t f. fine-put areg 0 f))))
+    (delete-stops m w (b .ordinary) (b .none) ∙ same-stop (deleteFirstStep m w) (put areg 0 (deleteFirstStep m w)) (kept (lawful-deleteFirstStep (λ k a z kind address p. tt)) m (any-fine w (b .ordinary)) .ordinary) (λ P t f. fine-put areg 0 f))))
 
 dist-stops : (m : List ℕ) {w : Work} → Begun w → Tells (distStops m w) (dist m w)
 unfolding distStops unmarked dist
@@ -159,7 +159,7 @@ dist-stops m {w} b =
     (λ e. rw (yes-eq e, eq-eqb (reg breg w) 0 e) (tells-calm (fine-put areg 0 (calm b))))
     (λ e. rw (no-eq e, ne-eqb (reg breg w) 0 e)
     (regroup (not (isOutside m (atWord (wptr w) tlinkS))) _ _ (readWord m (atWord (wptr w) tlinkS) (distLink m) w)
-    (tells-read m (atWord (wptr w) tlinkS) (distLink m) w _ (b .count) (b .none) (λ P t f. kept (lawful-distLink (t stop) _) m f) (dist-link-stops m _ b))))
+    (tells-read m (atWord (wptr w) tlinkS) (distLink m) w _ (b .ordinary) (b .none) (λ P t f. kept (lawful-distLink (t stop) _) m f) (dist-link-stops m _ b))))
 
 -- ---- requests
 
@@ -179,8 +179,8 @@ unfolding timerWake
 front-stops m queue front {w} c =
     regroup (going w) _ _ (timerWake m queue front w)
     (tells-going w (timerWake m queue front w) _ c (λ P t f. kept (lawful-timerStatus (t stop) _ _ _) m (fine-load m _ f))
-    (λ e. let b : Begun w = record { count = c .count; none = e } in
-    tells-read m (atWord front pointerS) (timerStatus m queue front) w _ (c .count) e (λ P t f. kept (lawful-timerStatus (t stop) _ _ _) m f) (status-stops m queue front _ b)))
+    (λ e. let b : Begun w = record { ordinary = c .ordinary; none = e } in
+    tells-read m (atWord front pointerS) (timerStatus m queue front) w _ (c .ordinary) e (λ P t f. kept (lawful-timerStatus (t stop) _ _ _) m f) (status-stops m queue front _ b)))
 
 pub timer-stops : (m : List ℕ) (queue : ℕ) {w : Work} → Begun w → Tells (timerStops queue m w) (handleTimerRequest m queue w)
 unfolding timerStops handleTimerRequest timerServe timerFront lower put wordAt
@@ -206,13 +206,13 @@ content-stops : (m : List ℕ) (hc : ℕ) {w : Work} → Begun w
 unfolding handleReadyRequest readyContent
 content-stops m hc {w} b =
     regroup (not (isOutside m (atWord portBase hc))) _ _ (handleReadyRequest m hc w)
-    (tells-read m (atWord portBase hc) (readyContent m) w _ (b .count) (b .none) (λ P t f. kept (lawful-readyContent (t stop) _) m f)
-    (tells-read m (channelStatus hc m w) (readyStatus m (wordAt m (atWord portBase hc) w)) w _ (b .count) (b .none) (λ P t f. kept (lawful-readyStatus (t stop) _ _) m f)
+    (tells-read m (atWord portBase hc) (readyContent m) w _ (b .ordinary) (b .none) (λ P t f. kept (lawful-readyContent (t stop) _) m f)
+    (tells-read m (channelStatus hc m w) (readyStatus m (wordAt m (atWord portBase hc) w)) w _ (b .ordinary) (b .none) (λ P t f. kept (lawful-readyStatus (t stop) _ _) m f)
     (ready-status-stops m _ _ b)))
 
 lowered : (k mask : ℕ) {w : Work} → Begun w → Begun (lower k mask w)
 unfolding lower put
-lowered k mask {w} b = record { count = kept (lawful-lower k mask) [] (any-fine w (b .count)) .count; none = b .none }
+lowered k mask {w} b = record { ordinary = kept (lawful-lower k mask) [] (any-fine w (b .ordinary)) .ordinary; none = b .none }
 
 pub request-stops : (m : List ℕ) (hc : ℕ) {w : Work} → Begun w → Tells (requestStops hc m w) (handleChannelRequest m hc w)
 unfolding requestStops handleChannelRequest lower put wordAt

@@ -18,7 +18,7 @@ use Rattle.rules.specs.Scheduling.{tlinkS, notProcess, timeS}
 use Rattle.rules.specs.Timers.{insertFinalStep, insertWalk, deleteFinalStep, deleteWalk}
 use Rattle.rules.proofs.Tests.{cases-lt, yes-eq, no-eq, on-pick, on-eq}
 use Rattle.laws.specs.Alike.{Unrefused}
-use Rattle.laws.specs.Alike.{Whole}
+use Rattle.laws.specs.Alike.{Ordinary}
 use Rattle.laws.specs.Ring.{Way, end, round, Walks, again, stays, goes, comesAgain, isOutside, nextPointer, insertEnds, insertRings, InsertRing, deleteEnds, deleteRings, DeleteRing}
 use Rattle.laws.proofs.Fine.{Fine, fine-load}
 use Rattle.laws.proofs.Ring.{budget, budget-round, budget-end, no-end, refused-iff, again-iff}
@@ -94,7 +94,7 @@ walk-longer m x {w} {ends} {ends′} k k′ u on previous e =
 
 -- ---- insertion
 
-module _ (m : List ℕ) (time : ℕ) (w : Work) (count : Whole w) (none : w .answer ≡ 0) where
+module _ (m : List ℕ) (time : ℕ) (w : Work) (o : Ordinary w) (none : w .answer ≡ 0) where
   -- a turn whose own pointer is inside memory
   insert-turn : (turns previous : ℕ) → index previous < length m
       → insertWalk m (suc turns) time previous w
@@ -103,14 +103,14 @@ module _ (m : List ℕ) (time : ℕ) (w : Work) (count : Whole w) (none : w .ans
       (insertWalk m turns time (atWord (wordAt m previous w) tlinkS) (access m kindLoad (atWord (wordAt m previous w) timeS) w))
       (insertFinalStep m previous (wordAt m previous w) (access m kindLoad (atWord (wordAt m previous w) timeS) w)))
   unfolding insertWalk
-  insert-turn turns previous h = rw (inside-same m 2 previous w (count .1) h)
+  insert-turn turns previous h = rw (inside-same m 2 previous w (o .1) h)
 
   -- a turn whose own pointer is outside
   insert-outside : (turns previous : ℕ) → length m ≤ index previous → Calm (insertWalk m (suc turns) time previous w)
   unfolding insertWalk
   insert-outside turns previous h =
       let p = wordAt m previous w in
-      outside-calm m 2 previous w count h none _
+      outside-calm m 2 previous w o h none _
       (λ P t f.
       on-eq (Fine P) p notProcess (kept (lawful-insertFinalStep previous p) m f)
       (on-pick (Fine P) (later time (wordAt m (atWord p timeS) (access m kindLoad previous w)))
@@ -143,7 +143,7 @@ module _ (m : List ℕ) (time : ℕ) (w : Work) (count : Whole w) (none : w .ans
       p = wordAt m previous w
 
       calm : Calm w
-      calm = calm-none count none
+      calm = calm-none o none
 
       on : Work
       on = access m kindLoad (atWord p timeS) w
@@ -160,11 +160,11 @@ module _ (m : List ℕ) (time : ℕ) (w : Work) (count : Whole w) (none : w .ans
       go false ea true eb c ec z =
           on-eq Calm p notProcess (kept (lawful-insertFinalStep previous p) m calm)
           (on-pick Calm (later time (wordAt m (atWord p timeS) w))
-          (outside-calm m 2 (atWord p timeS) w count (leb-true _ _ eb) none _ (λ P t f. kept (lawful-insertWalk (t stop) (suc turns) time (atWord p tlinkS)) m f))
+          (outside-calm m 2 (atWord p timeS) w o (leb-true _ _ eb) none _ (λ P t f. kept (lawful-insertWalk (t stop) (suc turns) time (atWord p tlinkS)) m f))
           found)
       go false ea false eb false ec z = rw ec (on-eq Calm p notProcess (kept (lawful-insertFinalStep previous p) m calm) found)
       go false ea false eb true ec z =
-          let same : on ≡ w = inside-same m 2 (atWord p timeS) w (count .1) (leb-false _ _ eb) in
+          let same : on ≡ w = inside-same m 2 (atWord p timeS) w (o .1) (leb-false _ _ eb) in
           rw (ec, same) (on-eq Calm p notProcess (kept (lawful-insertFinalStep previous p) m calm) (insert-outside turns (atWord p tlinkS) (leb-true _ _ z)))
 
   -- one turn of a walk that goes on
@@ -173,7 +173,7 @@ module _ (m : List ℕ) (time : ℕ) (w : Work) (count : Whole w) (none : w .ans
   insert-on turns previous h e =
       let g = insert-goes (wordAt m previous w) e in
       insert-turn turns previous h
-      ∙ rw (no-eq (g .0), g .2, inside-same m 2 (atWord (wordAt m previous w) timeS) w (count .1) (g .1))
+      ∙ rw (no-eq (g .0), g .2, inside-same m 2 (atWord (wordAt m previous w) timeS) w (o .1) (g .1))
 
   pub insert-walk : Walk m w (insertEnds m w time) (λ turns previous. insertWalk m turns time previous w)
   unfolding insertWalk refuseAt
@@ -198,20 +198,20 @@ module _ (m : List ℕ) (time : ℕ) (w : Work) (count : Whole w) (none : w .ans
 
 -- ---- deletion
 
-module _ (m : List ℕ) (w : Work) (count : Whole w) (none : w .answer ≡ 0) where
+module _ (m : List ℕ) (w : Work) (o : Ordinary w) (none : w .answer ≡ 0) where
   -- a turn whose own pointer is inside memory
   delete-turn : (turns previous : ℕ) → index previous < length m
       → deleteWalk m (suc turns) previous w
       ≡ ifEq (wordAt m previous w) (wptr w) (deleteFinalStep m previous w) (deleteWalk m turns (atWord (wordAt m previous w) tlinkS) w)
   unfolding deleteWalk
-  delete-turn turns previous h = rw (inside-same m 2 previous w (count .1) h)
+  delete-turn turns previous h = rw (inside-same m 2 previous w (o .1) h)
 
   -- a turn whose own pointer is outside
   delete-outside : (turns previous : ℕ) → length m ≤ index previous → Calm (deleteWalk m (suc turns) previous w)
   unfolding deleteWalk
   delete-outside turns previous h =
       let p = wordAt m previous w in
-      outside-calm m 2 previous w count h none _
+      outside-calm m 2 previous w o h none _
       (λ P t f. on-eq (Fine P) p (wptr w) (kept (lawful-deleteFinalStep previous) m f) (kept (lawful-deleteWalk (t stop) turns (atWord p tlinkS)) m f))
 
   -- what it means that the walk does not end at p
@@ -233,7 +233,7 @@ module _ (m : List ℕ) (w : Work) (count : Whole w) (none : w .answer ≡ 0) wh
       p = wordAt m previous w
 
       found : Calm (deleteFinalStep m previous w)
-      found = kept (lawful-deleteFinalStep previous) m (calm-none count none)
+      found = kept (lawful-deleteFinalStep previous) m (calm-none o none)
 
       go : (a : Bool) → eqb p (wptr w) ≡ a → pick a true (isOutside m (atWord p tlinkS)) ≡ true
           → Calm (ifEq p (wptr w) (deleteFinalStep m previous w) (deleteWalk m (suc turns) (atWord p tlinkS) w))

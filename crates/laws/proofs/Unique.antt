@@ -15,7 +15,7 @@ use Rattle.rules.specs.declared.Reply.{Reply}
 use Rattle.rules.specs.declared.Answer.{Answer}
 use Rattle.rules.specs.declared.Answer.the-variants.{Done, Size, CodeSize, BadChannel, JournalBad, NothingToUndo, Halted, Idle, NotReady, Unlisted, OutsideFetch, OutsideLoad, OutsideStore, Stop, JournalFull}
 use Rattle.rules.proofs.Tests.{yes-lt, no-lt, yes-eq, no-eq, cases-lt, cases-eq}
-use Rattle.laws.specs.Answers.{before, outsideAnswer, after, answerOf, Known}
+use Rattle.laws.specs.Answers.{lowAnswers, outsideAnswer, highAnswers, answerOf, Known}
 
 -- ---- number, part and address determine the answer
 
@@ -67,9 +67,9 @@ number-answer n part a k =
     bare : (n ≡ outside → ⊥) → _≡_ {A = ℕ × ℕ × ℕ} (n, 0, 0) (n, part, a)
     bare e = let p = k .proper .bare e in rw (p .0, p .1)
 
-    first : n < outside → numbered (look before n Done) ≡ (n, 0, 0)
+    first : n < outside → numbered (look lowAnswers n Done) ≡ (n, 0, 0)
     first h =
-        look-counts 0 before
+        look-counts 0 lowAnswers
         (refl, refl, (refl, refl, (refl, refl, (refl, refl, (refl, refl, (refl, refl, (refl, refl, (refl, refl, (refl, refl, (refl, refl, tt))))))))))
         n
         (omega arith)
@@ -83,8 +83,8 @@ number-answer n part a k =
         (λ l. rw (no-eq f, yes-eq l, e, l))
         (λ l. let p = k .proper .parts e in rw (no-eq f, no-eq l, e) (ap (λ (i : ℕ). (outside, i, a)) (omega (arith, p, f, l)))))
 
-    third : outside < n → numbered (look after n Done) ≡ (n, 0, 0)
-    third h = look-counts 11 after (refl, refl, (refl, refl, tt)) n (omega (arith, h)) (omega (arith, k .most))
+    third : outside < n → numbered (look highAnswers n Done) ≡ (n, 0, 0)
+    third h = look-counts 11 highAnswers (refl, refl, (refl, refl, tt)) n (omega (arith, h)) (omega (arith, k .most))
 
 pub one-answer : (a b : Answer) → numbered a ≡ numbered b → a ≡ b
 one-answer a b e = sym (answer-number a) ∙ ap answerFor e ∙ answer-number b

@@ -6,7 +6,7 @@ use lib.ListN.{getD, set, replicate}
 use Rattle.rules.specs.Tests.{ifLt, ifEq}
 use Rattle.rules.specs.Registers.{registers, iptrReg, wdescReg, areg, breg, creg}
 use Rattle.rules.specs.Memory.{byteIn, setByteIn, moved, within, storing, stores}
-use Rattle.rules.specs.Work.{Work, begin, put, raise, lower, refuseAt, append, wordAt, access, storeWord, rIndexWord, wIndexWord, moveOutside, moveOrRefuse, transfer}
+use Rattle.rules.specs.Work.{Work, begin, put, raise, lower, refuseAt, append, wordAt, access, storeWord, rIndexWord, wIndexWord, firstOutside, upToOutside, moveAccesses, moveOutside, moveOrRefuse, transfer}
 use Rattle.rules.specs.Scheduling.{notProcess, memStart, clearIdle, maskStatus, activateProcess, save, saveRest, saveEreg, saveRegisters, interrupt, runOverLow, run}
 use Rattle.rules.specs.Data.{moveDone}
 use Rattle.rules.specs.Channels.{moveMessage, outputMessage, outputTo, outputReady, softOutput, output}
@@ -38,7 +38,7 @@ pub over-workspace : (after 0x8000_007C 4 .answer ≡ 0)
     × (getD (after 0x8000_007C 4 .regs) iptrReg 0 ≡ 0x8000_0055)
     × (now 0x8000_007C 4 20 ≡ notProcess)
     × (now 0x8000_007C 4 14 ≡ 0x8000_0080)
-unfolding output softOutput outputReady outputTo outputMessage moveMessage moveDone transfer moveOrRefuse moveOutside run runOverLow interrupt saveRegisters saveRest saveEreg save maskStatus activateProcess clearIdle wIndexWord rIndexWord storeWord append access refuseAt wordAt put raise lower stores storing moved byteIn setByteIn within ifLt ifEq
+unfolding output softOutput outputReady outputTo outputMessage moveMessage moveDone transfer moveOrRefuse moveOutside firstOutside upToOutside moveAccesses run runOverLow interrupt saveRegisters saveRest saveEreg save maskStatus activateProcess clearIdle wIndexWord rIndexWord storeWord append access refuseAt wordAt put raise lower stores storing moved byteIn setByteIn within ifLt ifEq
 over-workspace = (refl, refl, refl, refl, refl)
 
 -- over the end of the save area, words 16 to 18: the sender's registers are saved after the message, so its Status replaces the first word of it
@@ -48,5 +48,5 @@ pub over-save-area : (after 0x8000_0040 12 .answer ≡ 0)
     × (now 0x8000_0040 12 16 ≡ 0)
     × (now 0x8000_0040 12 17 ≡ 0x1111_1111)
     × (now 0x8000_0040 12 18 ≡ 0x2222_2222)
-unfolding output softOutput outputReady outputTo outputMessage moveMessage moveDone transfer moveOrRefuse moveOutside run runOverLow interrupt saveRegisters saveRest saveEreg save maskStatus activateProcess clearIdle wIndexWord rIndexWord storeWord append access refuseAt wordAt put raise lower stores storing moved byteIn setByteIn within ifLt ifEq
+unfolding output softOutput outputReady outputTo outputMessage moveMessage moveDone transfer moveOrRefuse moveOutside firstOutside upToOutside moveAccesses run runOverLow interrupt saveRegisters saveRest saveEreg save maskStatus activateProcess clearIdle wIndexWord rIndexWord storeWord append access refuseAt wordAt put raise lower stores storing moved byteIn setByteIn within ifLt ifEq
 over-save-area = (refl, refl, refl, refl, refl, refl)

@@ -1,4 +1,4 @@
--- Whole runs on 64 words, by computation: StartNextProcess in the same step sees what the step stored or moved (DECISIONS 17), and an
+-- Ordinary runs on 64 words, by computation: StartNextProcess in the same step sees what the step stored or moved (DECISIONS 17), and an
 -- interrupt saves in 000's order.
 use mathlib.Core.Path.{_≡_, refl}
 use mathlib.Core.List.{List, [], _∷_}
@@ -8,7 +8,7 @@ use Rattle.rules.specs.Tests.{ifLt, ifLe, ifEq}
 use Rattle.rules.specs.Core.{gotoSNPBit}
 use Rattle.rules.specs.Registers.{registers}
 use Rattle.rules.specs.Memory.{word, bytes, byteIn, setByteIn, moved, within, storing, stores}
-use Rattle.rules.specs.Work.{Work, untraced, begin, put, raise, lower, gotoSNP, refuseAt, append, wordAt, access, storeWord, rIndexWord, wIndexWord, moveOutside, moveOrRefuse, transfer}
+use Rattle.rules.specs.Work.{Work, untraced, begin, put, raise, lower, gotoSNP, refuseAt, append, wordAt, access, storeWord, rIndexWord, wIndexWord, firstOutside, upToOutside, moveAccesses, moveOutside, moveOrRefuse, transfer}
 use Rattle.rules.specs.Scheduling.{notProcess, clearIdle, startSlice, resumed, maskStatus, unlinkFront, dequeue, activateProcess, save, saveRest, saveEreg, saveRegisters, restore, restoreRest, restoreRegisters, interrupt, runOverLow, run, startQueued, resumeOrStart, nextHigh, nextLow, nextProcess, startNextProcess, actOnSNP, saveIptr, stopp}
 use Rattle.rules.specs.Data.{popped, moveDone, stl, blockMove}
 
@@ -95,7 +95,7 @@ pub after-move :
       address = 0;
       trace = untraced;
     }
-unfolding ifLt ifLe ifEq put raise lower refuseAt append wordAt access storeWord rIndexWord wIndexWord moveOutside moveOrRefuse transfer stores storing within moved byteIn setByteIn moveDone blockMove clearIdle resumed restore restoreRest restoreRegisters resumeOrStart nextHigh nextProcess startNextProcess actOnSNP
+unfolding ifLt ifLe ifEq put raise lower refuseAt append wordAt access storeWord rIndexWord wIndexWord firstOutside upToOutside moveAccesses moveOutside moveOrRefuse transfer stores storing within moved byteIn setByteIn moveDone blockMove clearIdle resumed restore restoreRest restoreRegisters resumeOrStart nextHigh nextProcess startNextProcess actOnSNP
 after-move = refl
 
 -- ---- a high process interrupts a low one whose Status has bit 3 set: seven stores, in 000's order; bits 31 and 2 to 7 of Status stay

@@ -9,8 +9,8 @@ use Rattle.rules.specs.Memory.{Store, word, bytes}
 use Rattle.rules.specs.Work.{Work, untraced, outside, kindFetch, kindStore}
 
 -- work of 45 registers that lists no accesses, as that of a call (01, Memory and registers; DECISIONS 59)
-abbrev pub Whole : Work → Type 0
-Whole w = (length (w .regs) ≡ registers) × (w .trace ≡ untraced)
+abbrev pub Ordinary : Work → Type 0
+Ordinary w = (length (w .regs) ≡ registers) × (w .trace ≡ untraced)
 
 -- a store stays inside a memory of size words (01, Answers by number, 10; DECISIONS 47)
 abbrev pub StoreInside : ℕ → Store → Type 0
@@ -33,13 +33,13 @@ pub record Witness (size : ℕ) (w : Work) : Type 0 where
 pub record Unrefused (size : ℕ) (w : Work) : Type 0 where
   pub none : w .answer ≡ 0
   pub inside : Inside size (w .stored)
-  pub count : Whole w
+  pub ordinary : Ordinary w
 
 -- `Alike size w w′`: w is work in a memory of size words, w′ the same work in that memory with words appended. Where w is refused with 10, an access
 -- was outside; where it is refused otherwise, w′ is refused with the same number; and where it is not refused, w′ is the same: registers and stores
 -- (01, Answers by number, 10)
 pub data Alike (size : ℕ) (w w′ : Work) : Type 0 where
-  beyond : w .answer ≡ outside → Whole w → Witness size w → Alike size w w′
+  beyond : w .answer ≡ outside → Ordinary w → Witness size w → Alike size w w′
   refused : (w .answer ≡ 0 → ⊥) → (w .answer ≡ outside → ⊥) → w .answer ≡ w′ .answer
-      → Whole w → Whole w′ → Alike size w w′
+      → Ordinary w → Ordinary w′ → Alike size w w′
   same : w ≡ w′ → Unrefused size w → Alike size w w′

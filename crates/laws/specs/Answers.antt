@@ -8,8 +8,8 @@ use Rattle.rules.specs.declared.Answer.{Answer}
 use Rattle.rules.specs.declared.Answer.the-variants.{Done, Size, CodeSize, BadChannel, JournalBad, NothingToUndo, Halted, Idle, NotReady, Unlisted, OutsideFetch, OutsideLoad, OutsideStore, Stop, JournalFull}
 
 -- 01's numbers before 10, with their answers; 0 is accepted (01, Answers by number; DECISIONS 45)
-abbrev pub before : List (ℕ × Answer)
-before =
+abbrev pub lowAnswers : List (ℕ × Answer)
+lowAnswers =
     (0, Done)
     ∷ (1, Size)
     ∷ (2, CodeSize)
@@ -22,18 +22,18 @@ before =
     ∷ (9, Unlisted)
     ∷ []
 
--- the parts of 10: 10a, 10b, 10c (02, No. 1; DECISIONS 58)
+-- the answer of a part of 10, with its address (02, No. 1; DECISIONS 58)
 abbrev pub outsideAnswer : ℕ → ℕ → Answer
 outsideAnswer part a = ifEq part kindFetch (OutsideFetch a) (ifEq part kindLoad (OutsideLoad a) (OutsideStore a))
 
 -- 01's numbers after 10 (01, Answers by number; DECISIONS 45)
-abbrev pub after : List (ℕ × Answer)
-after = (11, Stop) ∷ (12, JournalFull) ∷ []
+abbrev pub highAnswers : List (ℕ × Answer)
+highAnswers = (11, Stop) ∷ (12, JournalFull) ∷ []
 
 -- the answer of a number, part and address; of 10 without a part OutsideStore, of a number that is none of 01's Done
 -- (01, Answers by number; DECISIONS 45, 58)
 unfoldable pub answerOf : ℕ → ℕ → ℕ → Answer
-answerOf n part a = ifLt n outside (look before n Done) (ifEq n outside (outsideAnswer part a) (look after n Done))
+answerOf n part a = ifLt n outside (look lowAnswers n Done) (ifEq n outside (outsideAnswer part a) (look highAnswers n Done))
 
 -- 10 has a part, 1 to 3; another number has neither part nor address (02, No. 1; DECISIONS 58)
 pub record Proper (n part a : ℕ) : Type 0 where

@@ -16,9 +16,13 @@ abbrev pub AllInside : ℕ → List Access → Type 0
 AllInside size [] = Unit {0}
 AllInside size (x ∷ xs) = (index (x .1) < size) × AllInside size xs
 
--- the access outside memory that refused a work; kind 0 where there is none (01, Answers by number; 02, No. 1)
-abbrev pub outsideOf : Work → Access
-outsideOf w = ifEq (w .answer) outside (w .kind, w .address) (0, 0)
+-- the access outside memory that a refusal tells, by its number, kind and address; kind 0 where there is none (01, Answers by number; 02, No. 1)
+abbrev pub toldOutside : ℕ × ℕ × ℕ → Access
+toldOutside t = ifEq (t .0) outside (t .1, t .2) (0, 0)
+
+-- the refusal of a work: its number, the kind and the address of the access; three zeros where there is none (DECISIONS 44)
+abbrev pub told : Work → ℕ × ℕ × ℕ
+told w = (w .answer, w .kind, w .address)
 
 -- what a list of accesses says of the answer: all are inside memory, and the answer is not 10; or the answer is 10 for the last of them, which is
 -- outside memory, and those before are inside (01, Answers by number; 02, No. 1)

@@ -5,7 +5,7 @@ use Prim.Native.Nat.{ℕ, zero, suc, _-_, _*_, _^_, _≤_, _<_, min}
 use native.Mathlib.Omega.{arith}
 use lib.ListN.{length}
 use Rattle.rules.specs.Words.{range, atByte, offset, index}
-use Rattle.rules.specs.Work.{kindLoad, kindStore, moveOutside}
+use Rattle.rules.specs.Work.{kindLoad, kindStore, firstOutside, moveAccesses, moveOutside}
 use Rattle.rules.proofs.Tests.{yes-lt, no-lt, cases-lt}
 use Rattle.memory.specs.Places.{reach}
 
@@ -50,7 +50,7 @@ module _ (m : List ℕ) where
   size = length m
 
   pub outside-none : (n s d : ℕ) → reach size s n ≡ n → reach size d n ≡ n → moveOutside m s d n ≡ (0, 0)
-  unfolding moveOutside
+  unfolding moveOutside moveAccesses firstOutside
   outside-none zero s d p q = refl
   outside-none (suc n) s d p q =
       cases-lt (index s) size
@@ -64,7 +64,7 @@ module _ (m : List ℕ) where
 
   pub outside-load : (n s d : ℕ) → s < range → reach size s n < n → reach size s n ≤ reach size d n
       → moveOutside m s d n ≡ (kindLoad, atByte s (reach size s n))
-  unfolding moveOutside
+  unfolding moveOutside moveAccesses firstOutside
   outside-load zero s d b p q = absurd (omega arith)
   outside-load (suc n) s d b p q =
       cases-lt (index s) size
@@ -81,7 +81,7 @@ module _ (m : List ℕ) where
 
   pub outside-store : (n s d : ℕ) → d < range → reach size d n < reach size s n
       → moveOutside m s d n ≡ (kindStore, atByte d (reach size d n))
-  unfolding moveOutside
+  unfolding moveOutside moveAccesses firstOutside
   outside-store zero s d b p = absurd (omega (arith, reach-le 0 size s))
   outside-store (suc n) s d b p =
       cases-lt (index s) size

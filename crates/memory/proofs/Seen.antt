@@ -8,7 +8,7 @@ use lib.ListN.{length}
 use Rattle.rules.specs.Tests.{ifLt, ifEq}
 use Rattle.rules.specs.Words.{atByte, offset, index}
 use Rattle.rules.specs.Memory.{bytes, byteIn, setByteIn, moved, within, storing, stores}
-use Rattle.rules.specs.Work.{Work, begin, append, wordAt, byteAt, access, storeWord, moveOutside, moveOrRefuse, transfer}
+use Rattle.rules.specs.Work.{Work, begin, append, wordAt, byteAt, access, storeWord, firstOutside, moveAccesses, moveOutside, moveOrRefuse, transfer}
 use Rattle.rules.proofs.Tests.{yes-lt, no-lt, yes-eq, no-eq, cases-lt}
 use Rattle.plan.specs.View.{moves}
 use Rattle.memory.specs.Places.{cameFrom}
@@ -79,5 +79,5 @@ abbrev start : Work
 start = begin []
 
 run-up : wordAt memory 0x8000_0004 (transfer memory 0x8000_0000 0x8000_0001 4 (storeWord memory 0x8000_0000 0xDDCC_BBAA start)) ≡ 0x8877_66AA
-unfolding wordAt transfer moveOrRefuse moveOutside storeWord append access ifLt ifEq stores storing within moved byteIn setByteIn
+unfolding wordAt transfer moveOrRefuse moveOutside moveAccesses firstOutside storeWord append access ifLt ifEq stores storing within moved byteIn setByteIn
 run-up = refl

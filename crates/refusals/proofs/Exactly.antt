@@ -10,9 +10,9 @@ use lib.ListN.{length, getD}
 use Rattle.rules.specs.Tests.{pick, ifLt, ifEq, ifSet}
 use borrow.Author.Tests.{le-leb, lt-leb, le-ltb, lt-ltb, eq-eqb, ne-eqb}
 use Rattle.rules.specs.Words.{index}
-use Rattle.rules.specs.Registers.{registers, pointerReg, countReg, channelReg, activeBit, heldBit, eventChannel, flagsReg, statusReg, oreg, idleFlag, haltedFlag, linkChans}
+use Rattle.rules.specs.Registers.{registers, iptrReg, pointerReg, countReg, channelReg, activeBit, heldBit, eventChannel, flagsReg, statusReg, oreg, idleFlag, haltedFlag, linkChans}
 use Rattle.rules.specs.Memory.{Store, touched}
-use Rattle.rules.specs.Work.{Access, outside, Work, begin, put, raise, lower, access, refuseAt, refuse, append, storeByte, kindLoad, kindStore}
+use Rattle.rules.specs.Work.{Access, outside, Work, begin, put, raise, lower, access, refuseAt, refuse, append, storeByte, kindFetch, kindLoad, kindStore}
 use Rattle.rules.specs.Timers.{timerReady}
 use Rattle.rules.specs.Channels.{requested}
 use Rattle.rules.specs.Links as links
@@ -20,8 +20,8 @@ use Rattle.rules.specs.Step as steps
 use Rattle.rules.specs.Calls as rules
 use Rattle.rules.specs.declared.Machine.{Machine}
 use Rattle.rules.proofs.Tests.{yes-lt, no-lt, yes-eq, no-eq, by-bool, cases-eq, cases-lt, on-eq, on-lt, on-le}
-use Rattle.refusals.specs.Conditions.{Refusal, refusalOf, Row, row, rowOutside, firstOf, badJournal, lastTooLong, pairOutside, isHalted, asked, isIdle, isUnlisted, isMoving, isHeld, takeNotReady, giveNotReady, pointerOutside, full, givePairs, stepPairs, tickRefusals, takeRefusals, giveRefusals, eventRefusals, undoRefusals, clearRefusals, freshRefusals, stepOutside, stops, stepRefusals}
-use Rattle.laws.specs.Listed.{outsideOf}
+use Rattle.refusals.specs.Conditions.{Refusal, refusalOf, Row, row, rowOutside, firstOf, badJournal, lastTooLong, pairOutside, isHalted, asked, isIdle, isUnlisted, fetchOutside, isMoving, isHeld, takeNotReady, giveNotReady, pointerOutside, full, givePairs, stepPairs, tickRefusals, takeRefusals, giveRefusals, eventRefusals, undoRefusals, clearRefusals, freshRefusals, stepOutside, stops, stepRefusals}
+use Rattle.laws.specs.Listed.{toldOutside, told}
 use Rattle.laws.proofs.Calm.{never}
 use Rattle.laws.proofs.LawfulStep.{first-outside}
 use Rattle.refusals.proofs.Own.{ownRows, own-first}
@@ -31,10 +31,6 @@ use Rattle.refusals.proofs.Stored.{no-pairs, tick-stored, take-stored, 
 refusal-of : (t : Bool) (o p : rules.Outcome) → refusalOf (pick t o p) ≡ pick t (refusalOf o) (refusalOf p)
 refusal-of true o p = refl
 refusal-of false o p = refl
-
--- number, kind and address of a work
-abbrev told : Work → Refusal
-told w = (w .answer, w .kind, w .address)
 
 -- the checks before a call's own
 checked-answer : (bad : Bool) (m : Machine) (mem j : List ℕ) (o : rules.Outcome) (rest : List Row) → refusalOf o ≡ firstOf rest
@@ -286,14 +282,23 @@ module _ (r mem : List ℕ) where
       (λ o. rw (no-eq o) (idle-answer i)))
 
   -- where it is not halted, the first access outside memory is that of choose
-  pub not-halted : length r ≡ registers → bitAnd (getD r flagsReg 0) haltedFlag ≡ 0 → stepOutside r mem ≡ outsideOf (steps.choose mem (begin r))
+  not-halted : length r ≡ registers → bitAnd (getD r flagsReg 0) haltedFlag ≡ 0 → stepOutside r mem ≡ toldOutside (told (steps.choose mem (begin r)))
   unfolding steps.step
   not-halted k h =
-      first-outside mem r k
-      ∙ ap outsideFor (rw (yes-eq h) (halt-answer (getD r statusReg 0) (steps.choose mem (begin r))))
-    where
-      outsideFor : Refusal → Access
-      outsideFor t = ifEq (t .0) outside (t .1, t .2) (0, 0)
+      first-outside mem r k ∙ ap toldOutside (rw (yes-eq h) (halt-answer (getD r statusReg 0) (steps.choose mem (begin r))))
+
+  -- where it is halted, there is none
+  is-halted : length r ≡ registers → (bitAnd (getD r flagsReg 0) haltedFlag ≡ 0 → ⊥) → stepOutside r mem ≡ (0, 0)
+  unfolding steps.step
+  is-halted k h =
+      first-outside mem r k ∙ ap toldOutside (rw (no-eq h) (refuse-answer 6 r)) ∙ no-eq {a = 6} {b = outside} (λ e. omega (arith, e)) (0, 0) (0, 0)
+
+  -- and where the answer of choose is not 10, there is none
+  pub none-outside : length r ≡ registers → (steps.choose mem (begin r) .answer ≡ outside → ⊥) → stepOutside r mem ≡ (0, 0)
+  none-outside k n =
+      cases-eq (bitAnd (getD r flagsReg 0) haltedFlag) 0
+      (λ h. not-halted k h ∙ no-eq n (steps.choose mem (begin r) .kind, steps.choose mem (begin r) .address) (0, 0))
+      (λ h. is-halted k h)
 
   pub step-own : length r ≡ registers → told (steps.step mem (begin r)) ≡ firstOf (stepOwn r mem)
   unfolding steps.step firstOf
@@ -311,3 +316,18 @@ step-exactly m mem j h =
     (commit-or-refuse-answer m mem j 0 (steps.step mem (begin (m .regs))) (stepOwn (m .regs) mem) (stepPairs (m .regs) mem)
     (λ t. omega arith, (λ t. omega arith, (λ t. omega arith, (λ t. omega arith, (λ t. omega arith, (λ t. omega arith, (λ t. omega arith, tt)))))))
     (step-own (m .regs) mem h) (λ z. refl))
+
+-- ---- a step that 1, 4, 6 and 7 do not refuse, by the conditions that follow
+
+-- the refusal by 9, 10a, 10b, 10c, 11 and 12; i is Iptr, a the address of the first access outside memory
+abbrev pub laterRefusal : (u f l s p q : Bool) (i a : ℕ) → Refusal
+laterRefusal u f l s p q i a =
+    pick u (9, 0, 0)
+    (pick f (outside, kindFetch, i) (pick l (outside, kindLoad, a) (pick s (outside, kindStore, a) (pick p (11, 0, 0) (pick q (12, 0, 0) (0, 0, 0))))))
+
+pub step-later : (m : Machine) (mem j : List ℕ) → length (m .regs) ≡ registers → rules.sizeBad mem j ≡ false → badJournal m j ≡ false
+    → isHalted (m .regs) ≡ false → isIdle (m .regs) ≡ false
+    → refusalOf (rules.step m mem j)
+    ≡ laterRefusal (isUnlisted (m .regs) mem) (fetchOutside (m .regs) mem) (eqb (stepOutside (m .regs) mem .0) kindLoad) (eqb (stepOutside (m .regs) mem .0) kindStore) (stops (m .regs) mem) (full (stepPairs (m .regs) mem) m j) (getD (m .regs) iptrReg 0) (stepOutside (m .regs) mem .1)
+unfolding firstOf
+step-later m mem j h sized framed runs busy = step-exactly m mem j h ∙ rw (sized, framed, runs, busy)

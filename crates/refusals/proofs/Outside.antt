@@ -25,15 +25,15 @@ use Rattle.rules.proofs.Tests.{yes-eq, no-eq, cases-eq, cases-lt}
 use Rattle.laws.specs.Alike.{Witness, Alike}
 use Rattle.laws.specs.Alike as alike
 use Rattle.laws.specs.Answers.{Known}
-use Rattle.laws.specs.Listed.{outsideOf}
+use Rattle.laws.specs.Listed.{toldOutside, told}
 use Rattle.laws.proofs.Fine.{turns-known, fine-begin}
 use Rattle.laws.proofs.FineStep.{fine-step}
 use Rattle.laws.proofs.LawfulStep.{step-alike, first-outside}
 use Rattle.laws.proofs.Calm.{never, and-false}
 use Rattle.laws.proofs.Appended.{stores-appended, touched-appended, record-appended}
-use Rattle.refusals.specs.Conditions.{Refusal, refusalOf, firstOf, badJournal, isHalted, isIdle, isUnlisted, fetches, fetchOutside, stepOutside, stops, full, stepPairs}
+use Rattle.refusals.specs.Conditions.{Refusal, refusalOf, badJournal, isHalted, isIdle, isUnlisted, fetches, fetchOutside, stepOutside, stops, full, stepPairs}
 use Rattle.refusals.specs.Outside.{appended}
-use Rattle.refusals.proofs.Exactly.{step-exactly}
+use Rattle.refusals.proofs.Exactly.{laterRefusal, step-later}
 
 -- ---- a memory that is not refused with 1 is small, and so is the longer one
 
@@ -47,10 +47,6 @@ memory-small mem j h = go (ltb (length mem) 64) (ltb 16384 (length mem)) refl h
     go false false e z = omega (arith, ltb-false 16384 (length mem) e)
 
 -- ---- from the refusal of the call to that of its work
-
--- number, kind and address of a work
-abbrev told : Work → Refusal
-told w = (w .answer, w .kind, w .address)
 
 module _ (m : Machine) (mem j : List ℕ) where
   abbrev work : Work
@@ -93,14 +89,11 @@ module _ (m : Machine) (mem j : List ℕ) where
   pub step-accesses : length (m .regs) ≡ registers → (k a : ℕ) → kindFetch ≤ k
       → (refusalOf (rules.step m mem j) ≡ (outside, k, a)) ↔ ((sizeBad mem j ≡ false) × (badJournal m j ≡ false) × (firstOutside mem (steps.accesses mem (m .regs)) ≡ (k, a)))
   step-accesses h k a some = (
-    (λ e. let t = step-ten k a e in (t .0, t .1, first-outside mem (m .regs) h ∙ ap outsideFor (t .2) ∙ yes-eq {a = outside} {b = outside} refl (k, a) (0, 0))),
+    (λ e. let t = step-ten k a e in (t .0, t .1, first-outside mem (m .regs) h ∙ ap toldOutside (t .2) ∙ yes-eq {a = outside} {b = outside} refl (k, a) (0, 0))),
     λ e. ten-step k a (e .0) (e .1) (back (sym (first-outside mem (m .regs) h) ∙ e .2)),
   )
     where
-      outsideFor : Refusal → Access
-      outsideFor t = ifEq (t .0) outside (t .1, t .2) (0, 0)
-
-      back : outsideOf work ≡ (k, a) → told work ≡ (outside, k, a)
+      back : toldOutside (told work) ≡ (k, a) → told work ≡ (outside, k, a)
       back e =
           cases-eq (work .answer) outside
           (λ n. let q : (work .kind, work .address) ≡ (k, a) = rw (yes-eq n) at e in rw n (ap (λ (x : Access). (outside, x .0, x .1)) q))
@@ -190,7 +183,6 @@ module _ (m : Machine) (mem j : List ℕ) (h : length (m .regs) ≡ registers) (
   iptr = getD (m .regs) iptrReg 0
 
   pub step-fetch : (a : ℕ) → (refusalOf (rules.step m mem j) ≡ (outside, kindFetch, a)) ↔ ((fetchOutside (m .regs) mem ≡ true) × (a ≡ iptr))
-  unfolding firstOf
   step-fetch a = (
     (λ e. go (isUnlisted (m .regs) mem) (fetchOutside (m .regs) mem) (eqb (o .0) kindLoad) (eqb (o .0) kindStore) (stops (m .regs) mem) (full (stepPairs (m .regs) mem) m j) (sym first ∙ e)),
     λ e. first ∙ rw (unlisted-inside (m .regs) mem (e .0), e .0, e .1),
@@ -199,12 +191,9 @@ module _ (m : Machine) (mem j : List ℕ) (h : length (m .regs) ≡ registers) (
       o : Access
       o = stepOutside (m .regs) mem
 
-      rows : Bool → Bool → Bool → Bool → Bool → Bool → Refusal
-      rows u f l s p q =
-          pick u (9, 0, 0) (pick f (outside, kindFetch, iptr) (pick l (outside, kindLoad, o .1) (pick s (outside, kindStore, o .1) (pick p (11, 0, 0) (pick q (12, 0, 0) (0, 0, 0))))))
-
-      first : refusalOf (rules.step m mem j) ≡ rows (isUnlisted (m .regs) mem) (fetchOutside (m .regs) mem) (eqb (o .0) kindLoad) (eqb (o .0) kindStore) (stops (m .regs) mem) (full (stepPairs (m .regs) mem) m j)
-      first = step-exactly m mem j h ∙ rw (sized, framed, runs, busy)
+      first : refusalOf (rules.step m mem j)
+          ≡ laterRefusal (isUnlisted (m .regs) mem) (fetchOutside (m .regs) mem) (eqb (o .0) kindLoad) (eqb (o .0) kindStore) (stops (m .regs) mem) (full (stepPairs (m .regs) mem) m j) iptr (o .1)
+      first = step-later m mem j h sized framed runs busy
 
       number : Refusal → ℕ
       number t = t .0
@@ -212,7 +201,7 @@ module _ (m : Machine) (mem j : List ℕ) (h : length (m .regs) ≡ registers) (
       part : Refusal → ℕ
       part t = t .1
 
-      go : (u f l s p q : Bool) → rows u f l s p q ≡ (outside, kindFetch, a) → (f ≡ true) × (a ≡ iptr)
+      go : (u f l s p q : Bool) → laterRefusal u f l s p q iptr (o .1) ≡ (outside, kindFetch, a) → (f ≡ true) × (a ≡ iptr)
       go true f l s p q e = absurd (omega (arith, ap number e))
       go false true l s p q e = (refl, sym (ap (λ (t : Refusal). t .2) e))
       go false false true s p q e = absurd (omega (arith, ap part e))

@@ -22,9 +22,9 @@ use Rattle.rules.specs.Operations.{operations, operate, function}
 use Rattle.rules.specs.Step.{fetched, execute, decode, instruction, instructionUnlessIdle, timersFirst, channelsFirst, choose}
 use Rattle.rules.proofs.Tests.{yes, yes-eq, no-eq, by-bool, cases-eq, cases-lt}
 use Rattle.laws.specs.Lists.{listed}
-use Rattle.laws.specs.Alike.{Whole}
+use Rattle.laws.specs.Alike.{Ordinary}
 use Rattle.laws.specs.Answers.{Proper, Known}
-use Rattle.laws.specs.Listed.{outsideOf}
+use Rattle.laws.specs.Listed.{toldOutside, told}
 use Rattle.laws.proofs.Fine.{Fine, Turns, accessing-turns, turns-known, fine-begin, fine-put, fine-putCore}
 use Rattle.laws.proofs.Lawful.{kept}
 use Rattle.laws.proofs.LawfulScheduling.{lawful-actOnSNP}
@@ -100,15 +100,15 @@ module _ (r mem : List ℕ) (h : length r ≡ registers) where
       stopped = turns 11 (omega arith) (omega arith)
 
       fine : Fine (Answer Mine) (begin r)
-      fine = record { count = (h, refl); known = inl refl; ten = accessing-turns (Answer Mine) (turns 10 (omega arith) (omega arith)) }
+      fine = record { ordinary = (h, refl); known = inl refl; ten = accessing-turns (Answer Mine) (turns 10 (omega arith) (omega arith)) }
 
   -- ---- the fetch
 
   abbrev afterFetch : Work
   afterFetch = fetched (nextByte r mem) (begin r)
 
-  fetch-count : Whole afterFetch
-  fetch-count = kept (lawful-fetched _) mem (any-fine (begin r) (h, refl)) .count
+  fetch-ordinary : Ordinary afterFetch
+  fetch-ordinary = kept (lawful-fetched _) mem (any-fine (begin r) (h, refl)) .ordinary
 
   fetch-answer : afterFetch .answer ≡ 0
   unfolding fetched put
@@ -135,7 +135,7 @@ module _ (r mem : List ℕ) (h : length r ≡ registers) where
     told-not a o q = rw o (sym (ne-eqb a n q))
 
     plain : Fine (Answer (Not n)) (afterFetch)
-    plain = not-fine n _ fetch-count other (λ q. some (sym fetch-answer ∙ q))
+    plain = not-fine n _ fetch-ordinary other (λ q. some (sym fetch-answer ∙ q))
 
     told-inside : index (getD r iptrReg 0) < length mem → Told (decode mem (nextByte r mem / 2 ^ 4) (afterFetch))
     unfolding decode execute Told
@@ -157,7 +157,7 @@ module _ (r mem : List ℕ) (h : length r ≡ registers) where
             rw (f, lt-ltb (index (getD r iptrReg 0)) (length mem) b, eq-eqb (nextByte r mem / 2 ^ 4) 0xF e)
             (told
             ∙ same-number n some other (operate (nextCode r mem) mem (afterFetch)) _
-            (kept (lawful-operate (nextCode r mem) (λ c k a z kind address p. tt) (λ l k a z kind address p. tt)) mem (any-fine _ fetch-count) .count)
+            (kept (lawful-operate (nextCode r mem) (λ c k a z kind address p. tt) (λ l k a z kind address p. tt)) mem (any-fine _ fetch-ordinary) .ordinary)
             (λ P t f. kept lawful-actOnSNP mem (fine-put oreg 0 f)))
 
     told-instruction : Told (instruction mem (begin r))
@@ -179,13 +179,13 @@ module _ (r mem : List ℕ) (h : length r ≡ registers) where
       (λ l. rw (built-listed (nextCode r mem), l, operate-unlisted (nextCode r mem) mem (afterFetch) l, yes-eq fetch-answer) refl)
     where
       plain : Fine (Answer (Not 9)) (afterFetch)
-      plain = not-fine 9 _ fetch-count (λ q. omega (arith, q)) (λ q. omega (arith, q, fetch-answer))
+      plain = not-fine 9 _ fetch-ordinary (λ q. omega (arith, q)) (λ q. omega (arith, q, fetch-answer))
 
   begun : Begun (begin r)
-  begun = record { count = (h, refl); none = refl }
+  begun = record { ordinary = (h, refl); none = refl }
 
   fetch-begun : Begun (afterFetch)
-  fetch-begun = record { count = fetch-count; none = fetch-answer }
+  fetch-begun = record { ordinary = fetch-ordinary; none = fetch-answer }
 
   -- what is served is not refused with 9
   served-nine : fetches r ≡ false → (w : Work) → ((P : ℕ → ℕ → ℕ → Type 0) → Turns P stop → Fine P (begin r) → Fine P w) → isUnlisted r mem ≡ eqb (w .answer) 9
@@ -209,12 +209,12 @@ module _ (r mem : List ℕ) (h : length r ≡ registers) where
   unfolding stops operationStops serviceStops Told ifLt
   own-eleven i =
       by-choice r mem (λ w. Tells (stops r mem) w) i
-      (λ f a. rw (f, a) (request-stops mem (requested (begin r)) begun ∙ after _ (kept (lawful-handleChannelRequest (λ k a z kind address p. tt) _) mem (any-fine (begin r) (h, refl)) .count)))
-      (λ f a b. rw (f, a, b) (timer-stops mem 0 begun ∙ after _ (kept (lawful-handleTimerRequest (λ k a z kind address p. tt) 0) mem (any-fine (begin r) (h, refl)) .count)))
-      (λ f a b. rw (f, a, b) (timer-stops mem 1 begun ∙ after _ (kept (lawful-handleTimerRequest (λ k a z kind address p. tt) 1) mem (any-fine (begin r) (h, refl)) .count)))
+      (λ f a. rw (f, a) (request-stops mem (requested (begin r)) begun ∙ after _ (kept (lawful-handleChannelRequest (λ k a z kind address p. tt) _) mem (any-fine (begin r) (h, refl)) .ordinary)))
+      (λ f a b. rw (f, a, b) (timer-stops mem 0 begun ∙ after _ (kept (lawful-handleTimerRequest (λ k a z kind address p. tt) 0) mem (any-fine (begin r) (h, refl)) .ordinary)))
+      (λ f a b. rw (f, a, b) (timer-stops mem 1 begun ∙ after _ (kept (lawful-handleTimerRequest (λ k a z kind address p. tt) 1) mem (any-fine (begin r) (h, refl)) .ordinary)))
       (λ f. yes f _ _ ∙ told-instruction 11 (λ q. omega (arith, q)) (λ q. omega (arith, q)) _ (sym (place-fetched (nextCode r mem) (nextByte r mem) mem (begin r)) ∙ operate-stops (nextCode r mem) mem fetch-begun) f)
     where
-      after : (w : Work) → Whole w → eqb (w .answer) stop ≡ eqb (actOnSNP mem w .answer) stop
+      after : (w : Work) → Ordinary w → eqb (w .answer) stop ≡ eqb (actOnSNP mem w .answer) stop
       after w k = same-stop w (actOnSNP mem w) k (λ P t f. kept lawful-actOnSNP mem f)
 
   -- ---- 10a
@@ -229,8 +229,8 @@ module _ (r mem : List ℕ) (h : length r ≡ registers) where
   stopping : Turns Unfetched stop
   stopping = unfetched-turns stop (λ q. omega (arith, q))
 
-  unfetched : (w : Work) → Whole w → w .kind ≡ 0 → Fine Unfetched w
-  unfetched w c e = record { count = c; known = λ q. omega (arith, e, q); ten = λ k a z kind address low high q. omega (arith, low, q) }
+  unfetched : (w : Work) → Ordinary w → w .kind ≡ 0 → Fine Unfetched w
+  unfetched w c e = record { ordinary = c; known = λ q. omega (arith, e, q); ten = λ k a z kind address low high q. omega (arith, low, q) }
 
   start : Fine Unfetched (begin r)
   start = unfetched (begin r) (h, refl) refl
@@ -264,7 +264,7 @@ module _ (r mem : List ℕ) (h : length r ≡ registers) where
   pub own-proper : Known (choose mem (begin r) .answer) (choose mem (begin r) .kind) (choose mem (begin r) .address)
   own-proper = kept (lawful-choose (turns-known _ (omega arith)) (turns-known _ (omega arith)) (turns-known _ (omega arith)) (turns-known _ (omega arith))) mem (fine-begin r h) .known
 
-  pub own-first : isIdle r ≡ false → firstOf (ownRows r mem (outsideOf (choose mem (begin r)))) ≡ (choose mem (begin r) .answer, choose mem (begin r) .kind, choose mem (begin r) .address)
+  pub own-first : isIdle r ≡ false → firstOf (ownRows r mem (toldOutside (told (choose mem (begin r))))) ≡ told (choose mem (begin r))
   unfolding firstOf
   own-first i =
       let f = own-fetch i in
@@ -275,7 +275,10 @@ module _ (r mem : List ℕ) (h : length r ≡ registers) where
       p = getD r iptrReg 0
 
       rows : ℕ → ℕ → Access → Refusal
-      rows n k o = pick (eqb n 9) (9, 0, 0) (pick (eqb k 1) (10, 1, p) (pick (eqb (o .0) 2) (10, 2, o .1) (pick (eqb (o .0) 3) (10, 3, o .1) (pick (eqb n 11) (11, 0, 0) (0, 0, 0)))))
+      rows n k o =
+          pick (eqb n 9) (9, 0, 0)
+          (pick (eqb k kindFetch) (outside, kindFetch, p)
+          (pick (eqb (o .0) kindLoad) (outside, kindLoad, o .1) (pick (eqb (o .0) kindStore) (outside, kindStore, o .1) (pick (eqb n 11) (11, 0, 0) (0, 0, 0)))))
 
       ten : (n k a : ℕ) → n ≡ 10 → (k ≡ 1 → a ≡ p) → (1 ≤ k) × (k ≤ 3) → rows n k (k, a) ≡ (n, k, a)
       ten n k a e f q =

@@ -7,30 +7,29 @@ use mathlib.Core.List.{List}
 use Prim.Native.Nat.{ℕ, _≤_, _<_}
 use native.Mathlib.Omega.{arith}
 use borrow.Author.Tests.{lt-ltb, lt-leb, eq-eqb, ne-eqb, eqb-true, ltb-true, ltb-false}
-use lib.Bits.{bitAnd}
 use lib.Dec.{ltb, eqb}
 use lib.ListN.{length, getD}
 use Rattle.rules.specs.Tests.{pick, look}
 use Rattle.rules.specs.Words.{index, later}
-use Rattle.rules.specs.Registers.{registers, iptrReg, flagsReg, haltedFlag, areg, breg, creg, clockReg}
-use Rattle.rules.specs.Work.{Access, Work, begin, reg, priority, wordAt}
+use Rattle.rules.specs.Registers.{registers, iptrReg, areg, breg, creg, clockReg}
+use Rattle.rules.specs.Work.{Work, kindLoad, kindStore, begin, reg, priority, wordAt}
 use Rattle.rules.specs.Scheduling.{ready, timeNotSet, timeSet}
 use Rattle.rules.specs.Timers.{tptrLoc, nextTime}
 use Rattle.rules.specs.Step as steps
 use Rattle.rules.specs.Calls as rules
 use Rattle.rules.specs.declared.Machine.{Machine}
-use Rattle.rules.proofs.Tests.{yes, no-eq, cases-eq}
-use Rattle.laws.specs.Alike.{Whole}
+use Rattle.rules.proofs.Tests.{yes}
+use Rattle.laws.specs.Alike.{Ordinary}
 use Rattle.laws.specs.Ring.{isOutside, insertRings}
 use Rattle.laws.specs.Stops.{going, insertStarted, insertStops, deleteStarted, deleteStops, InsertsInRing, DeletesInRing, TinRing, DistRing, tinStops, distStops, stateLoaded, linkLoaded, timeLoaded, markStops, taltwtStops, stopPlaces, nowhere}
 use Rattle.laws.proofs.Lawful.{kept, lawful-rIndexWord, lawful-wIndexWord}
 use Rattle.laws.proofs.LawfulTimers.{lawful-nextTime}
 use Rattle.laws.proofs.Calm.{never, and-false, any-fine}
 use Rattle.laws.proofs.TimerRings.{insert-rings, delete-rings}
-use Rattle.laws.proofs.Steps.{queue-inside, started-count, off-count, off-answer}
-use Rattle.refusals.specs.Conditions.{Refusal, refusalOf, firstOf, badJournal, isHalted, isIdle, isUnlisted, fetches, operates, nextCode, operationStops, fetchOutside, stepOutside, stops, full, stepPairs}
+use Rattle.laws.proofs.Steps.{queue-inside, started-ordinary, off-ordinary, off-answer}
+use Rattle.refusals.specs.Conditions.{Refusal, badJournal, isHalted, isIdle, isUnlisted, fetches, operates, nextCode, operationStops, fetchOutside, stepOutside, stops, full, stepPairs}
 use Rattle.refusals.proofs.Own.{own-nine, own-eleven, own-fetch, own-proper}
-use Rattle.refusals.proofs.Exactly.{not-halted, step-exactly}
+use Rattle.refusals.proofs.Exactly.{none-outside, laterRefusal, step-later}
 
 -- both of two tests
 both : (a b : Bool) → ((a && b) ≡ true) ↔ ((a ≡ true) × (b ≡ true))
@@ -59,7 +58,7 @@ and-true a b e = rw e
 
 -- ---- the walks
 
-module _ (mem : List ℕ) (large : 64 ≤ length mem) (w : Work) (h : Whole w) where
+module _ (mem : List ℕ) (large : 64 ≤ length mem) (w : Work) (h : Ordinary w) where
   queue : not (isOutside mem (tptrLoc (priority w))) ≡ true
   queue = rw (lt-leb (length mem) (index (tptrLoc (priority w))) (queue-inside mem w large))
 
@@ -68,8 +67,8 @@ module _ (mem : List ℕ) (large : 64 ≤ length mem) (w : Work) (h : Whole w) w
   insert-iff = (
     (λ e. let p = both _ (insertRings mem started (reg areg w) first) .0 e in
         let z = going-iff started .0 (both (going started) _ .0 (p .0) .0) in
-        (z, insert-rings mem (reg areg w) started count z first .0 (p .1))),
-    λ p. both _ _ .1 (both _ _ .1 (going-iff started .1 (p .0), queue), insert-rings mem (reg areg w) started count (p .0) first .1 (p .1)),
+        (z, insert-rings mem (reg areg w) started o z first .0 (p .1))),
+    λ p. both _ _ .1 (both _ _ .1 (going-iff started .1 (p .0), queue), insert-rings mem (reg areg w) started o (p .0) first .1 (p .1)),
   )
     where
       started : Work
@@ -78,19 +77,19 @@ module _ (mem : List ℕ) (large : 64 ≤ length mem) (w : Work) (h : Whole w) w
       first : ℕ
       first = wordAt mem (tptrLoc (priority w)) started
 
-      count : Whole started
-      count = started-count mem w h
+      o : Ordinary started
+      o = started-ordinary mem w h
 
   delete-iff : w .answer ≡ 0 → (deleteStops mem w ≡ true) ↔ DeletesInRing mem w
   unfolding deleteStops
-  delete-iff z = iff-same _ _ (and-true _ _ queue) (delete-rings mem (deleteStarted w) (off-count mem w h) (off-answer mem w h z) (wordAt mem (tptrLoc (priority w)) (deleteStarted w)))
+  delete-iff z = iff-same _ _ (and-true _ _ queue) (delete-rings mem (deleteStarted w) (off-ordinary mem w h) (off-answer mem w h z) (wordAt mem (tptrLoc (priority w)) (deleteStarted w)))
 
 -- ---- the operations that walk
 
-module _ (mem : List ℕ) (large : 64 ≤ length mem) (w : Work) (h : Whole w) where
+module _ (mem : List ℕ) (large : 64 ≤ length mem) (w : Work) (h : Ordinary w) where
   tin-iff : (tinStops mem w ≡ true) ↔ TinRing mem w
   unfolding tinStops
-  tin-iff = then-both _ _ (not-iff (later (reg (clockReg (priority w)) w) (reg areg w))) (insert-iff mem large (nextTime w) (kept lawful-nextTime mem (any-fine w h) .count))
+  tin-iff = then-both _ _ (not-iff (later (reg (clockReg (priority w)) w) (reg areg w))) (insert-iff mem large (nextTime w) (kept lawful-nextTime mem (any-fine w h) .ordinary))
 
   dist-iff : w .answer ≡ 0 → (distStops mem w ≡ true) ↔ DistRing mem w
   unfolding distStops
@@ -105,44 +104,28 @@ marked mem w n t =
 
 -- ---- where `stops` holds, it comes first
 
-module _ (r mem : List ℕ) (h : length r ≡ registers) (runs : isHalted r ≡ false) (busy : isIdle r ≡ false) where
-  awake : bitAnd (getD r flagsReg 0) haltedFlag ≡ 0
-  awake = cases-eq (bitAnd (getD r flagsReg 0) haltedFlag) 0 (λ e. e) (λ e. never (sym runs ∙ rw (no-eq e)))
-
+module _ (r mem : List ℕ) (h : length r ≡ registers) (busy : isIdle r ≡ false) where
   pub stops-first : stops r mem ≡ true → (isUnlisted r mem ≡ false) × (fetchOutside r mem ≡ false) × (stepOutside r mem ≡ (0, 0))
   stops-first s =
       let w = steps.choose mem (begin r) in
-      let e : w .answer ≡ 11 = eqb-true (w .answer) 11 (sym (own-eleven r mem h busy) ∙ s) in (
+      let e : w .answer ≡ 11 = eqb-true (w .answer) 11 (sym (own-eleven r mem h busy) ∙ s) in
+      (
         own-nine r mem h busy ∙ ne-eqb (w .answer) 9 (λ q. omega (arith, e, q)),
         own-fetch r mem h busy .0 ∙ ne-eqb (w .kind) 1 (λ q. omega (arith, q, own-proper r mem h .proper .bare (λ z. omega (arith, e, z)) .0)),
-        not-halted r mem h awake ∙ no-eq {a = w .answer} {b = 10} (λ q. omega (arith, e, q)) (w .kind, w .address) (0, 0),
+        none-outside r mem h (λ q. omega (arith, e, q)),
       )
 
 ltb-iff : (n k : ℕ) → (ltb n k ≡ true) ↔ (n < k)
 ltb-iff n k = ((λ e. ltb-true n k e), λ e. lt-ltb n k e)
 
--- the rows after 7, by their conditions
-abbrev numbers : Bool → Bool → Bool → Bool → Bool → Bool → ℕ
-numbers u f l s p q = pick u 9 (pick f 10 (pick l 10 (pick s 10 (pick p 11 (pick q 12 0)))))
-
-eleven : (u f l s p q : Bool) → numbers u f l s p q ≡ 11 → p ≡ true
-eleven true f l s p q e = absurd (omega (arith, e))
-eleven false true l s p q e = absurd (omega (arith, e))
-eleven false false true s p q e = absurd (omega (arith, e))
-eleven false false false true p q e = absurd (omega (arith, e))
-eleven false false false false true q e = refl
-eleven false false false false false true e = absurd (omega (arith, e))
-eleven false false false false false false e = absurd (omega (arith, e))
-
-numbered-rows : (u f l s p q : Bool) (i o : ℕ)
-    → pick {A = Refusal} u (9, 0, 0) (pick f (10, 1, i) (pick l (10, 2, o) (pick s (10, 3, o) (pick p (11, 0, 0) (pick q (12, 0, 0) (0, 0, 0)))))) .0 ≡ numbers u f l s p q
-numbered-rows true f l s p q i o = refl
-numbered-rows false true l s p q i o = refl
-numbered-rows false false true s p q i o = refl
-numbered-rows false false false true p q i o = refl
-numbered-rows false false false false true q i o = refl
-numbered-rows false false false false false true i o = refl
-numbered-rows false false false false false false i o = refl
+eleven : (u f l s p q : Bool) (i a : ℕ) → laterRefusal u f l s p q i a .0 ≡ 11 → p ≡ true
+eleven true f l s p q i a e = absurd (omega (arith, e))
+eleven false true l s p q i a e = absurd (omega (arith, e))
+eleven false false true s p q i a e = absurd (omega (arith, e))
+eleven false false false true p q i a e = absurd (omega (arith, e))
+eleven false false false false true q i a e = refl
+eleven false false false false false true i a e = absurd (omega (arith, e))
+eleven false false false false false false i a e = absurd (omega (arith, e))
 
 module _ (m : Machine) (mem j : List ℕ) (h : length (m .regs) ≡ registers) (sized : rules.sizeBad mem j ≡ false) (framed : badJournal m j ≡ false)
     (runs : isHalted (m .regs) ≡ false) (busy : isIdle (m .regs) ≡ false) where
@@ -154,23 +137,19 @@ module _ (m : Machine) (mem j : List ℕ) (h : length (m .regs) ≡ registers) (
 
   -- a call that nothing refuses before: 11 exactly where `stops` holds
   pub step-stops : (rules.step m mem j .answer ≡ 11) ↔ (stops r mem ≡ true)
-  unfolding firstOf
   step-stops = (
-    (λ e. eleven (isUnlisted r mem) (fetchOutside r mem) (eqb (o .0) 2) (eqb (o .0) 3) (stops r mem) (full (stepPairs r mem) m j) (sym first ∙ e)),
-    λ s. let q = stops-first r mem h runs busy s in first ∙ rw (q .0, q .1, q .2, s),
+    (λ e. eleven (isUnlisted r mem) (fetchOutside r mem) (eqb (stepOutside r mem .0) kindLoad) (eqb (stepOutside r mem .0) kindStore) (stops r mem) (full (stepPairs r mem) m j) (getD r iptrReg 0) (stepOutside r mem .1) (sym number ∙ e)),
+    λ s. let q = stops-first r mem h busy s in number ∙ found (q .0) (q .1) (q .2) s,
   )
     where
-      o : Access
-      o = stepOutside r mem
+      later : Refusal
+      later = laterRefusal (isUnlisted r mem) (fetchOutside r mem) (eqb (stepOutside r mem .0) kindLoad) (eqb (stepOutside r mem .0) kindStore) (stops r mem) (full (stepPairs r mem) m j) (getD r iptrReg 0) (stepOutside r mem .1)
 
-      rows : refusalOf (rules.step m mem j)
-          ≡ pick (isUnlisted r mem) (9, 0, 0) (pick (fetchOutside r mem) (10, 1, getD r iptrReg 0) (pick (eqb (o .0) 2) (10, 2, o .1) (pick (eqb (o .0) 3) (10, 3, o .1) (pick (stops r mem) (11, 0, 0) (pick (full (stepPairs r mem) m j) (12, 0, 0) (0, 0, 0))))))
-      rows = step-exactly m mem j h ∙ rw (sized, framed, runs, busy)
+      number : rules.step m mem j .answer ≡ later .0
+      number = ap (λ (t : Refusal). t .0) (step-later m mem j h sized framed runs busy)
 
-      first : rules.step m mem j .answer ≡ numbers (isUnlisted r mem) (fetchOutside r mem) (eqb (o .0) 2) (eqb (o .0) 3) (stops r mem) (full (stepPairs r mem) m j)
-      first =
-          ap (λ (t : Refusal). t .0) rows
-          ∙ numbered-rows (isUnlisted r mem) (fetchOutside r mem) (eqb (o .0) 2) (eqb (o .0) 3) (stops r mem) (full (stepPairs r mem) m j) _ _
+      found : isUnlisted r mem ≡ false → fetchOutside r mem ≡ false → stepOutside r mem ≡ (0, 0) → stops r mem ≡ true → later .0 ≡ 11
+      found u f o s = rw (u, f, o, s)
 
   large : 64 ≤ length mem
   unfolding rules.sizeBad rules.memorySizeBad
@@ -213,5 +192,5 @@ module _ (m : Machine) (mem j : List ℕ) (h : length (m .regs) ≡ registers) (
         → (rules.step m mem j .answer ≡ 11) ↔ TinRing mem (timeLoaded mem (linkLoaded mem (stateLoaded mem start)))
     taltwt-ring c n t = iff-trans step-stops (iff-same _ _ (at-place 0x51 c ∙ marked mem start n t) (tin-iff mem large (timeLoaded mem (linkLoaded mem (stateLoaded mem start))) loaded))
       where
-        loaded : Whole (timeLoaded mem (linkLoaded mem (stateLoaded mem start)))
-        loaded = kept (lawful-rIndexWord _ _ _) mem (kept (lawful-rIndexWord _ _ _) mem (kept (lawful-rIndexWord _ _ _) mem (kept (lawful-wIndexWord _ _ _) mem (any-fine start (h, refl))))) .count
+        loaded : Ordinary (timeLoaded mem (linkLoaded mem (stateLoaded mem start)))
+        loaded = kept (lawful-rIndexWord _ _ _) mem (kept (lawful-rIndexWord _ _ _) mem (kept (lawful-rIndexWord _ _ _) mem (kept (lawful-wIndexWord _ _ _) mem (any-fine start (h, refl))))) .ordinary
