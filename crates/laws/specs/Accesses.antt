@@ -8,23 +8,24 @@
 --   timerSites        HandleTimerRequest, tin, talt, taltwt, enbt, dist
 --   channelSites      HandleChannelRequest, in, out, outword, outbyte, resetch, alt, altwt, enbs, diss, enbc, disc
 --   linkSites         take, give
+-- and `listings` has whole lists of accesses, in order.
 -- A procedure that several share has all its sites where its name stands; each other caller of Run has one of its sites. What has no site of
 -- its own cannot be the first access outside memory:
 -- - accesses of fixed words: a hard channel's word, TPtrLoc, the save area;
 -- - a store, or a second load, at an address that the step has loaded before: "with a store" below says that the load's site has it too;
 -- - a place between two that are accessed before it: Iptr.s in altwt and taltwt, TLink.s in tin; and outbyte's byte, in the word just stored.
 use Prim.Native.Nat.{ℕ, _+_, _-_, _*_, _/_, _%_, _^_}
-use mathlib.Core.Bool.{Bool, _&&_}
+use mathlib.Core.Bool.{Bool, true, false, _&&_}
 use mathlib.Core.List.{List, [], _∷_, _++_}
 use lib.Dec.{eqb}
 use Rattle.rules.specs.Words.{atWord, index}
 use Rattle.rules.specs.Core.{errorFlag}
 use Rattle.rules.specs.Stack.{clocksRun}
-use Rattle.rules.specs.Registers.{iptrReg, wdescReg, areg, breg, creg, oreg, statusReg, fptrReg, bptrReg, sliceReg, flagsReg, tEnabled, pointerReg, countReg, channelReg, activeBit, heldBit, runRequest, readyRequest, eventChannel}
-use Rattle.rules.specs.Work.{Work, begin, outside, kindFetch, kindLoad, kindStore}
+use Rattle.rules.specs.Registers.{iptrReg, wdescReg, areg, breg, creg, oreg, statusReg, fptrReg, bptrReg, sliceReg, flagsReg, haltedFlag, tEnabled, pointerReg, countReg, channelReg, activeBit, heldBit, runRequest, readyRequest, eventChannel}
+use Rattle.rules.specs.Work.{Access, Work, begin, outside, kindFetch, kindLoad, kindStore}
 use Rattle.rules.specs.Scheduling.{notProcess, noLowProcess, enabling, waiting, ready, timeSet, timeNotSet, noneSelected, portBase, sliceLength}
 use Rattle.rules.specs.Links.{take, give}
-use Rattle.rules.specs.Step.{step}
+use Rattle.rules.specs.Step.{step, accesses}
 use Rattle.rules.specs.Calls.{freshRegs, freshMemory}
 use Rattle.rules.specs.Starred.{Settings, with-settings}
 
@@ -503,3 +504,66 @@ freeSites =
     ∷ spares (op 0x03) ((areg, firstWord .0) ∷ [])
     ∷ spares (op 0x21) ((breg, firstWord .0) ∷ [])
     ∷ spared freeFunctions freeOperations
+
+-- ---- whole lists
+
+-- two lists of accesses are the same (DECISIONS 59)
+unfoldable pub sameList : List Access → List Access → Bool
+sameList [] [] = true
+sameList [] (y ∷ ys) = false
+sameList (x ∷ xs) [] = false
+sameList (x ∷ xs) (y ∷ ys) = eqb (x .0) (y .0) && eqb (x .1) (y .1) && sameList xs ys
+
+-- a step from these registers and words makes just these accesses, in this order (02, No. 1; DECISIONS 59)
+unfoldable pub makesJust : Instruction → Settings → Settings → List Access → Bool
+makesJust i registers words xs = sameList (accesses (memoryFor i words) (registersFor i registers)) xs
+
+-- the fetch at MemStart (01, One step (c))
+abbrev pub fetch : Access
+fetch = (kindFetch, 0x8000_0048)
+
+-- a load (000 1.5)
+abbrev pub loadAt : ℕ → Access
+loadAt a = (kindLoad, a)
+
+-- a store (000 1.5)
+abbrev pub storeAt : ℕ → Access
+storeAt a = (kindStore, a)
+
+-- move: count, destination, source (000 1.11)
+abbrev pub moving : ℕ → ℕ → ℕ → Settings
+moving count destination source = (areg, count) ∷ (breg, destination) ∷ (creg, source) ∷ []
+
+-- steps with all their accesses, in 000's order, up to a refusal (02, No. 1; DECISIONS 59)
+unfoldable pub listings : List Bool
+listings =
+    -- ldc; ldl 1; stl 1; call
+    makesJust (0x4, 0) [] [] (fetch ∷ [])
+    ∷ makesJust (0x7, 1) [] [] (fetch ∷ loadAt (mine + 4) ∷ [])
+    ∷ makesJust (0xD, 1) [] [] (fetch ∷ storeAt (mine + 4) ∷ [])
+    ∷ makesJust (0x9, 0) [] [] (fetch ∷ storeAt (mine - 4) ∷ storeAt (mine - 8) ∷ storeAt (mine - 12) ∷ storeAt (mine - 16) ∷ [])
+    -- lb; sb, which is a store; ldnl outside, with its low bits
+    ∷ makesJust (op 0x01) ((areg, buffer + 3) ∷ []) [] (fetch ∷ loadAt (buffer + 3) ∷ [])
+    ∷ makesJust (op 0x3B) ((areg, buffer + 3) ∷ []) [] (fetch ∷ storeAt (buffer + 3) ∷ [])
+    ∷ makesJust (0x3, 0) ((areg, 0x8000_0102) ∷ []) [] (fetch ∷ loadAt 0x8000_0102 ∷ [])
+    -- move of 2 bytes, of none; one that leaves memory at its source, one at its destination
+    ∷ makesJust (op 0x4A) (moving 2 buffer 0x8000_00E1) []
+    (fetch ∷ loadAt 0x8000_00E1 ∷ storeAt buffer ∷ loadAt 0x8000_00E2 ∷ storeAt (buffer + 1) ∷ [])
+    ∷ makesJust (op 0x4A) (moving 0 0 0) [] (fetch ∷ [])
+    ∷ makesJust (op 0x4A) (moving 9 buffer (lastByte .0)) []
+    (fetch ∷ loadAt (lastByte .0) ∷ storeAt buffer ∷ loadAt (lastByte .1) ∷ [])
+    ∷ makesJust (op 0x4A) (moving 9 (lastByte .0) buffer) []
+    (fetch ∷ loadAt buffer ∷ storeAt (lastByte .0) ∷ loadAt (buffer + 1) ∷ storeAt (lastByte .1) ∷ [])
+    -- in on an empty soft channel: it waits; from a process that waits there to send a byte: that one runs
+    ∷ makesJust (op 0x07) (moving 1 channel buffer) ((50, notProcess) ∷ [])
+    (fetch ∷ loadAt channel ∷ storeAt channel ∷ storeAt (mine - 4) ∷ storeAt (mine - 12) ∷ [])
+    ∷ makesJust (op 0x07) (moving 1 channel buffer) ((50, low other) ∷ (27, 0x8000_00E1) ∷ [])
+    (fetch ∷ loadAt channel ∷ storeAt channel ∷ loadAt (other - 12) ∷ loadAt 0x8000_00E1 ∷ storeAt buffer ∷ [])
+    -- a run request on channel 4: no fetch
+    ∷ makesJust unfetched ((channelReg 4, runRequest) ∷ []) ((4, low other) ∷ []) (loadAt (port 4) ∷ storeAt (port 4) ∷ [])
+    -- 6: none; 9 and 11: the fetch; 10a
+    ∷ makesJust unfetched ((flagsReg, haltedFlag) ∷ []) [] []
+    ∷ makesJust (op 0x11) [] [] (fetch ∷ [])
+    ∷ makesJust (op 0x41) ((areg, 33) ∷ []) [] (fetch ∷ [])
+    ∷ makesJust unfetched ((iptrReg, 0x8000_0101) ∷ []) [] ((kindFetch, 0x8000_0101) ∷ [])
+    ∷ []

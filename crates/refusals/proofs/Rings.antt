@@ -108,8 +108,7 @@ module _ (r mem : List ℕ) (h : length r ≡ registers) (busy : isIdle r ≡ fa
   pub stops-first : stops r mem ≡ true → (isUnlisted r mem ≡ false) × (fetchOutside r mem ≡ false) × (stepOutside r mem ≡ (0, 0))
   stops-first s =
       let w = steps.choose mem (begin r) in
-      let e : w .answer ≡ 11 = eqb-true (w .answer) 11 (sym (own-eleven r mem h busy) ∙ s) in
-      (
+      let e : w .answer ≡ 11 = eqb-true (w .answer) 11 (sym (own-eleven r mem h busy) ∙ s) in (
         own-nine r mem h busy ∙ ne-eqb (w .answer) 9 (λ q. omega (arith, e, q)),
         own-fetch r mem h busy .0 ∙ ne-eqb (w .kind) 1 (λ q. omega (arith, q, own-proper r mem h .proper .bare (λ z. omega (arith, e, z)) .0)),
         none-outside r mem h (λ q. omega (arith, e, q)),
