@@ -4,7 +4,7 @@ use rules::names::*;
 ghost use Prim.Native.Nat.{_≤_};
 ghost use mathlib.Core.Path.{_≡_};
 ghost use Rattle.rules.specs.Calls.{numbered};
-ghost use Rattle.program_io.specs.Answers.{numbersOf};
+ghost use Rattle.program_io.specs.Answers.{inNumbers};
 
 // An answer in numbers: its number, 0 where the call is accepted; the part of 10: 1 for 10a, 2 for 10b, 3 for 10c; the byte
 // address of the access that was outside memory. Part and address are 0 where there is none.
@@ -16,7 +16,7 @@ pub struct Refusal {
 
 // Returns the numbers of an answer that has neither part nor address.
 pub fn plain(number: u32) -> Refusal
-    ensures { λ r. ⌜ numbersOf r ≡ (number, 0, 0) ⌝ }
+    ensures { λ r. ⌜ r ≡ inNumbers (number, 0, 0) ⌝ }
 {
     Refusal {
         number,
@@ -27,7 +27,7 @@ pub fn plain(number: u32) -> Refusal
 
 // Returns the numbers of 10.
 fn outside(part: u32, address: u32) -> Refusal
-    ensures { λ r. ⌜ numbersOf r ≡ (10, part, address) ⌝ }
+    ensures { λ r. ⌜ r ≡ inNumbers (10, part, address) ⌝ }
 {
     Refusal {
         number: OUTSIDE,
@@ -38,7 +38,7 @@ fn outside(part: u32, address: u32) -> Refusal
 
 // Returns number, part and address of an answer.
 pub fn refusal_of(a: Answer) -> Refusal
-    ensures { λ r. ⌜ numbersOf r ≡ numbered a ⌝ }
+    ensures { λ r. ⌜ r ≡ inNumbers (numbered a) ⌝ }
 {
     match a {
         Answer::Done => plain(0),

@@ -1,7 +1,7 @@
 use Prim.Native.Nat.{_-_, _≤_}
 use native.Mathlib.Omega.{arith}
 use lib.ListN.{length}
-use mathlib.Core.Path.{_≡_, refl, _∙_}
+use mathlib.Core.Path.{_≡_, refl, ap, _∙_}
 use Rattle.t414_run.specs.Program.{run}
 use Rattle.t414_run.proofs.Running.{run-on, run-end, run-full}
 use Rattle.program_io.specs.Answers.{numbersOf}
@@ -22,18 +22,18 @@ returns : tie.Need-returns Inv-loop μ-loop
 returns c =
     let s = c .before .before .before .before .before .before .before .before in
     let l = s .before .before .before .before .loop in
-    run-end (l .machine) (l .mem) (l .journal) (s .step .result) _ _ (numbersOf (c .before .before .before .refusal-of .result)) (s .step .ensures) (c .before .before .before .refusal-of .ensures) (l .steps) (omega arith) (c .if1 .taken) ∙ l .inv .0
+    run-end (l .machine) (l .mem) (l .journal) (s .step .result) _ _ (numbersOf (c .before .before .before .refusal-of .result)) (s .step .ensures) (ap numbersOf (c .before .before .before .refusal-of .ensures)) (l .steps) (omega arith) (c .if1 .taken) ∙ l .inv .0
 
 loop-again : tie.Need-loop-again Inv-loop μ-loop
 loop-again c =
     let s = c .before .before .before .before .before .before .before .before in
     let l = s .before .before .before .before .loop in
-    (run-on (l .machine) (l .mem) (l .journal) (s .step .result) _ _ (numbersOf (c .before .before .before .refusal-of .result)) (s .step .ensures) (c .before .before .before .refusal-of .ensures) (l .steps) (omega arith) (c .if1 .left) ∙ l .inv .0, omega arith, search needs, search needs)
+    (run-on (l .machine) (l .mem) (l .journal) (s .step .result) _ _ (numbersOf (c .before .before .before .refusal-of .result)) (s .step .ensures) (ap numbersOf (c .before .before .before .refusal-of .ensures)) (l .steps) (omega arith) (c .if1 .left) ∙ l .inv .0, omega arith, search needs, search needs)
 
 returns-2 : tie.Need-returns-2 Inv-loop μ-loop
 returns-2 c =
     let l = c .before .before .loop in
-    run-full (l .machine) (l .mem) (l .journal) (numbersOf (c .plain .result)) (c .plain .ensures) (l .steps) (omega arith) ∙ l .inv .0
+    run-full (l .machine) (l .mem) (l .journal) (numbersOf (c .plain .result)) (ap numbersOf (c .plain .ensures)) (l .steps) (omega arith) ∙ l .inv .0
 
 pub run-spec : {M : Type 1} → statement M
 run-spec =

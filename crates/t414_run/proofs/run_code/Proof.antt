@@ -1,4 +1,4 @@
-use mathlib.Core.Path.{_∙_}
+use mathlib.Core.Path.{ap, _∙_}
 use Rattle.t414_run.proofs.Running.{program-on, program-end}
 use Rattle.program_io.specs.Answers.{numbersOf}
 use borrow.Author.Needs.{needs}
@@ -10,7 +10,7 @@ returns c =
     let n = c .before .before in
     let f = n .before .before .before .before .before .before in
     let a = f .before .before .before .before .before .before .args in
-    program-end (a .code .now) (a .mem .now) (a .journal .now) (f .fresh .result) _ _ (numbersOf (n .refusal-of .result)) (f .fresh .ensures) (n .refusal-of .ensures) (c .if1 .taken)
+    program-end (a .code .now) (a .mem .now) (a .journal .now) (f .fresh .result) _ _ (numbersOf (n .refusal-of .result)) (f .fresh .ensures) (ap numbersOf (n .refusal-of .ensures)) (c .if1 .taken)
 
 returns-2 : tie.Need-returns-2
 returns-2 c =
@@ -19,7 +19,7 @@ returns-2 c =
     let n = i .before .before in
     let f = n .before .before .before .before .before .before in
     let a = f .before .before .before .before .before .before .args in
-    r .run .ensures ∙ program-on (a .code .now) (a .mem .now) (a .journal .now) (f .fresh .result) _ _ (numbersOf (n .refusal-of .result)) (f .fresh .ensures) (n .refusal-of .ensures) (i .if1 .left)
+    r .run .ensures ∙ program-on (a .code .now) (a .mem .now) (a .journal .now) (f .fresh .result) _ _ (numbersOf (n .refusal-of .result)) (f .fresh .ensures) (ap numbersOf (n .refusal-of .ensures)) (i .if1 .left)
 
 pub run-code-spec : {M : Type 1} → statement M
 run-code-spec =
