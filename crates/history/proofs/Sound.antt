@@ -98,7 +98,7 @@ pub sound : Laws t414 Ok
 unfolding guard
 sound =
     record {
-      keeps = λ c x y w b h e. rw (effect-is x y w b (byteOf c x) (work c x) e .0) (fine-work c x h .count .0);
+      keeps = λ c x y w b h e. rw (effect-is x y w b (byteOf c x) (work c x) e .0) (fine-work c x h .ordinary .0);
       back = λ c x y w b h e front j t r.
           let q = effect-is x y w b (byteOf c x) (work c x) e in
           rw (q .0, q .1) (unrecord-last x (work c x) h front j (rw (q .1) at t));
