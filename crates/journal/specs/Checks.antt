@@ -16,9 +16,9 @@ firstBad badChannel memory journal depth used =
 
 -- the reply of a call refused with a part and an address: the machine unchanged, byte 0; for any memory and journal
 -- (01, Answers by number; 02, No. 1)
-abbrev pub RefusalAt : ℕ → ℕ → ℕ → Machine → Reply → Type 0
-RefusalAt number part address m r = (mem j : List ℕ) → outcomeOf r mem j ≡ refusedAt number part address m mem j
+abbrev pub RefusesAt : ℕ → ℕ → ℕ → Machine → Reply → Type 0
+RefusesAt number part address m r = (mem j : List ℕ) → outcomeOf r mem j ≡ refusedAt number part address m mem j
 
 -- the reply of a call refused without an access (01, Answers by number)
-abbrev pub Refusal : ℕ → Machine → Reply → Type 0
-Refusal number m r = (mem j : List ℕ) → outcomeOf r mem j ≡ refused number m mem j
+abbrev pub Refuses : ℕ → Machine → Reply → Type 0
+Refuses number m r = (mem j : List ℕ) → outcomeOf r mem j ≡ refused number m mem j

@@ -10,7 +10,7 @@ ghost use Prim.Native.Nat.{_≤_};
 ghost use Rattle.rules.specs.Work.{outside};
 ghost use Rattle.rules.specs.Calls as calls;
 ghost use Rattle.laws.specs.Answers.{outsideAnswer, answerOf, Known};
-ghost use Rattle.journal.specs.Checks.{Refusal, RefusalAt, firstBad};
+ghost use Rattle.journal.specs.Checks.{Refuses, RefusesAt, firstBad};
 
 // Tests for Size: memory is not 64 to 16,384 words, or the journal is over 65,536.
 pub fn size_bad(memory: usize, journal: usize) -> bool
@@ -96,7 +96,7 @@ fn answer_of(number: u32, part: u32, address: u32) -> Answer
 // Builds the reply of a call refused with a number, without an access: the machine unchanged, byte 0.
 pub fn refuse(m: Machine, number: u32) -> Reply
     requires { ⌜ (number ≤ 12) × (number ≡ outside → ⊥) ⌝ }
-    ensures { λ r. ⌜ Refusal number m r ⌝ }
+    ensures { λ r. ⌜ Refuses number m r ⌝ }
 {
     refuse_at(m, number, 0, 0)
 }
@@ -104,7 +104,7 @@ pub fn refuse(m: Machine, number: u32) -> Reply
 // Builds the reply of a call refused with a number, a part and an address: the machine unchanged, byte 0.
 pub fn refuse_at(m: Machine, number: u32, part: u32, address: u32) -> Reply
     requires { ⌜ Known number part address ⌝ }
-    ensures { λ r. ⌜ RefusalAt number part address m r ⌝ }
+    ensures { λ r. ⌜ RefusesAt number part address m r ⌝ }
 {
     let answer = answer_of(number, part, address);
     Reply {
