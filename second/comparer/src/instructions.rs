@@ -2,6 +2,8 @@
 
 use std::sync::LazyLock;
 
+use crate::assembly::Reference;
+
 const LIST: &str = include_str!("../../../docs/instructions.txt");
 
 /// A function or an operation: its code and document 000's name.
@@ -41,14 +43,22 @@ fn row(line: &'static str) -> Option<(&'static str, Instruction)> {
     Some((kind, Instruction { code, name }))
 }
 
-/// The code of a direct function.
-pub fn function_code(name: &str) -> u32 {
-    code_in(&FUNCTIONS, name).expect("a direct function")
+/// The code of a direct function; none for any other name.
+pub fn find_function(name: &str) -> Option<u32> {
+    code_in(&FUNCTIONS, name)
 }
 
-/// The code of an operation of the built list.
+/// The code of an operation of the built list; none for any other name.
+pub fn find_operation(name: &str) -> Option<u32> {
+    code_in(&OPERATIONS, name)
+}
+
+pub fn function_code(name: &str) -> u32 {
+    find_function(name).expect("a direct function")
+}
+
 pub fn operation_code(name: &str) -> u32 {
-    code_in(&OPERATIONS, name).expect("an operation of the built list")
+    find_operation(name).expect("an operation of the built list")
 }
 
 fn code_in(instructions: &[Instruction], name: &str) -> Option<u32> {
@@ -63,14 +73,9 @@ pub fn operation_place(code: u32) -> Option<usize> {
         .ok()
 }
 
-/// Appends a function: its prefixes and its last byte, by the Compiler Writer's rule.
+/// Appends a function: its prefixes and its last byte.
 pub fn put_function(bytes: &mut Vec<u8>, name: &str, operand: i32) {
-    if operand < 0 {
-        put_function(bytes, "nfix", !operand >> 4);
-    } else if operand > 15 {
-        put_function(bytes, "pfix", operand >> 4);
-    }
-    bytes.push((function_code(name) << 4) as u8 | (operand & 15) as u8);
+    Reference::RIGHT.put(bytes, function_code(name), operand);
 }
 
 /// Appends an operation.

@@ -1,7 +1,8 @@
-//! Holds two emulators of the T414 against each other: cases, sequences and whole runs.
+//! Holds two emulators of the T414 against each other: cases, sequences and whole runs; and an
+//! assembler and a lister against a reference.
 #![forbid(unsafe_code)]
 
-pub mod assemble;
+pub mod assembly;
 pub mod case;
 pub mod compare;
 pub mod explain;
@@ -14,6 +15,7 @@ pub mod process;
 pub mod program;
 pub mod protocol;
 pub mod random;
+pub mod random_code;
 pub mod repeat;
 pub mod respond;
 pub mod runs;

@@ -3,7 +3,7 @@
 use std::io::{Read, Write};
 use std::path::{Path, PathBuf};
 use std::process::{Command, ExitStatus, Stdio};
-use std::sync::mpsc;
+use std::sync::{mpsc, OnceLock};
 use std::thread;
 use std::time::Duration;
 
@@ -69,7 +69,13 @@ impl Program {
     /// Sends the input, closes, and reads. Writing and reading go on at the same time, since a
     /// program may answer before it has read everything.
     pub fn run(&self, input: Vec<u8>) -> Result<Outcome, String> {
+        self.run_with(&[], input)
+    }
+
+    /// The same with arguments for the program.
+    pub fn run_with(&self, arguments: &[&str], input: Vec<u8>) -> Result<Outcome, String> {
         let mut command = self.command()?;
+        command.args(arguments);
         command.stdin(Stdio::piped());
         command.stdout(Stdio::piped());
         command.stderr(Stdio::piped());
@@ -115,14 +121,19 @@ fn in_rattle_folder(path: &Path) -> bool {
     folder.is_some_and(|folder| folder.ends_with("target/bin"))
 }
 
-/// As `rt` runs a program: the kit's loader, and the kit's emulator where the machine is no x86-64.
-/// The kit stands two folders above the guide that `rt doc` names.
-fn rattle_command(program: &Path) -> Result<Command, String> {
+/// The folder of the kit: two above the guide that `rt doc` names.
+fn kit() -> Result<PathBuf, String> {
     let answer = Command::new("rt").arg("doc").output();
     let answer = answer.map_err(|error| format!("rt doc: {error}"))?;
     let guide = String::from_utf8_lossy(&answer.stdout).trim().to_string();
     let home = Path::new(&guide).parent().and_then(Path::parent);
-    let home = home.ok_or("rt doc names no guide")?;
+    Ok(home.ok_or("rt doc names no guide")?.into())
+}
+
+/// As `rt` runs a program: the kit's loader, and the kit's emulator where the machine is no x86-64.
+fn rattle_command(program: &Path) -> Result<Command, String> {
+    static KIT: OnceLock<Result<PathBuf, String>> = OnceLock::new();
+    let home = KIT.get_or_init(kit).clone()?;
     let tools = home
         .join("on")
         .join(std::env::consts::ARCH)

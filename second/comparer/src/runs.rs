@@ -1,9 +1,9 @@
 //! Whole runs of document 01's program: random standard inputs, what is written compared.
 
-use crate::assemble;
 use crate::process::Program;
 use crate::program::{self, Written};
 use crate::random::Random;
+use crate::random_code;
 
 /// A program that runs code from standard input.
 pub enum Runner {
@@ -90,7 +90,7 @@ fn input(random: &mut Random, number: u64) -> Vec<u8> {
     match random.below(4) {
         0 => (0..length).map(|_| random.word() as u8).collect(),
         _ => {
-            let mut code = assemble::program(random, program::MEMORY as u32, length);
+            let mut code = random_code::program(random, program::MEMORY as u32, length);
             code.resize(length, 0);
             code
         }

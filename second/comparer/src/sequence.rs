@@ -9,10 +9,10 @@ use std::ops::Range;
 use emulator::registers::*;
 use emulator::{Emulator, Machine, RECORD};
 
-use crate::assemble::program;
 use crate::case::{Call, Case, Response};
 use crate::history::History;
 use crate::random::Random;
+use crate::random_code::program;
 use crate::respond::respond;
 
 pub struct Sequences {

@@ -1,6 +1,6 @@
 //! docs/instructions.txt against the second emulator's own list.
 
-use comparer::instructions::{operation_place, put_function, FUNCTIONS, OPERATIONS};
+use comparer::instructions::{operation_place, FUNCTIONS, OPERATIONS};
 use emulator::registers::OREG;
 use emulator::{Emulator, Refusal};
 
@@ -46,19 +46,4 @@ fn no_code_and_no_name_comes_twice() {
     }
     names.sort_unstable();
     assert!(names.is_sorted_by(|one, next| one < next), "{names:?}");
-}
-
-/// Document 01, "Numbers at the edges": what the prefixes load.
-#[test]
-fn functions_are_written_with_their_prefixes() {
-    for (operand, expected) in [
-        (0x754, &[0x27, 0x25, 0x44][..]),
-        (-1, &[0x60, 0x4F]),
-        (-31, &[0x61, 0x41]),
-        (5, &[0x45]),
-    ] {
-        let mut bytes = Vec::new();
-        put_function(&mut bytes, "ldc", operand);
-        assert_eq!(bytes, expected);
-    }
 }

@@ -173,6 +173,17 @@ fn the_comparer_ends_with_a_clear_status() {
     assert_eq!(compare("--run second second_run 1 20").0, Some(0));
     let (status, text) = compare("second wrong:UnsignedGt 1 20000");
     assert_eq!(status, Some(1), "{text}");
+    assert_eq!(compare("--asm second_asm 1 2000").0, Some(0));
+    assert_eq!(compare("--list second_list 1 500").0, Some(0));
+    let (status, text) = compare("--list --addresses second_list 1 500");
+    assert_eq!(status, Some(0), "{text}");
+    assert_eq!(compare("--list-asm second_list second_asm 1 40").0, Some(0));
+    let (status, text) = compare("--asm wrong:PfixForNegative 1 10");
+    assert_eq!(status, Some(1), "{text}");
+    assert!(text.contains("ldc -10: 60 46 against 2F 2F"), "{text}");
+    assert_eq!(compare("--list-asm second second_list 1 1").0, Some(1));
+    assert_eq!(compare("--list second_asm 1 1").0, Some(2));
+    assert_eq!(compare("--asm second_asm second_asm 1 1").0, Some(2));
     assert_eq!(compare("second no_such_program 1 10").0, Some(2));
     assert_eq!(compare("second second_run 1 10").0, Some(2));
     assert_eq!(compare("second second 1").0, Some(2));

@@ -1,0 +1,7 @@
+mod Stores
+mod Bytes
+mod Rows
+mod Digits
+mod Text
+mod Rest
+mod Assembled

@@ -1,0 +1,5 @@
+pub mod Chain
+pub mod Names
+pub mod Listing
+pub mod Calls
+pub mod Meeting
