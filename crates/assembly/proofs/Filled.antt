@@ -64,7 +64,10 @@ filled-eight f v h =
 pub filled-not : NoneShorter filled → ⊥
 unfolding Undisturbed stepsAfter freshRegs freshMemory freshWord codeWord ifLt ifEq functionBad requested requestFrom timerReady timerDue fetched put access
 filled-not h =
-    omega (arith, filled-eight 0x4 0 (omega arith),
-    h 0x4 0 refl [] 0x40 tt refl (freshRegs 1) (freshMemory (0x40 ∷ []) 0 64)
-    (record { count = refl; clear = refl; stand = (omega arith, refl, tt); undisturbed = (omega arith, refl, refl) })
-    refl)
+    omega (
+      arith,
+      filled-eight 0x4 0 (omega arith),
+      h 0x4 0 refl [] 0x40 tt refl (freshRegs 1) (freshMemory (0x40 ∷ []) 0 64)
+          (record { count = refl; clear = refl; stand = (omega arith, refl, tt); undisturbed = (omega arith, refl, refl) })
+          refl,
+    )

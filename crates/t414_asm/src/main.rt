@@ -60,7 +60,10 @@ fn complain(number: u64, reason: u32) {
     io::write_all(2, b"asm: line ");
     io::print_decimal(2, number);
     match reason {
-        line::UNKNOWN => io::write_all(2, b": no operation, and no function with an operand, has this name (names are in lower case; prefixes are written as needed)\n"),
+        line::UNKNOWN => io::write_all(
+            2,
+            b": no operation, and no function with an operand, has this name (names are in lower case; prefixes are written as needed)\n",
+        ),
         line::MISSING => io::write_all(2, b": the operand is missing\n"),
         line::NUMBER => io::write_all(
             2,
