@@ -2,9 +2,8 @@
 -- high one takes bytes from link 0. `busy-holds` (proofs/Busy.antt) proves by computation that 2,000 ticks of link work do not use up the slice.
 use Prim.Native.Nat.{ℕ, zero, suc}
 use mathlib.Core.List.{List, [], _∷_}
-use lib.ListN.{getD, replicate}
+use lib.ListN.{replicate}
 use Rattle.rules.specs.Tests.{ifEq}
-use Rattle.rules.specs.Registers.{wdescReg, clockReg, sliceReg}
 use Rattle.rules.specs.Work.{begin}
 use Rattle.rules.specs.Links as links
 use Rattle.rules.specs.Calls.{Outcome, accepted, machineOf, step, give, clear, fresh}
@@ -48,13 +47,8 @@ ticks n o = next (λ m mem j. accepted 0 (machineOf (ticked n (m .regs)) 0 0) me
 
 -- the low process jumps, and the high one waits for a byte (01, Links, clocks, slice)
 unfoldable pub busy : Outcome
-busy = steps 26 (fresh busyCode (replicate 64 0) (replicate 64 0))
+busy = steps 26 (fresh busyCode (replicate 64 0) (replicate 192 0))
 
 -- a byte comes in, the high process is at work for 100 ticks, and waits for the next byte (02, No. 3)
 unfoldable pub linkWork : Outcome → Outcome
 linkWork o = steps 8 (ticks 100 (steps 1 (next (give 4 0x55) (next clear o))))
-
--- answer, Wdesc, slice and the high clock (01, Memory and registers)
-unfoldable pub facts : Outcome → List ℕ
-facts o =
-    o .answer ∷ getD (o .machine .regs) wdescReg 0 ∷ getD (o .machine .regs) sliceReg 0 ∷ getD (o .machine .regs) (clockReg 0) 0 ∷ []
