@@ -12,14 +12,12 @@ fn tick_slice(regs: [u32; REGISTERS]) -> [u32; REGISTERS]
 {
     let mut t = regs;
     if regs[SLICE_REG] < SLICE_LENGTH {
-        if regs[WDESC_REG] & 1 == 0 {
-            return t;
+        if regs[WDESC_REG] & 1 != 0 {
+            if regs[FLAGS_REG] & IDLE_FLAG == 0 {
+                t[SLICE_REG] = regs[SLICE_REG] + 1;
+                return t;
+            }
         }
-        if regs[FLAGS_REG] & IDLE_FLAG != 0 {
-            return t;
-        }
-        t[SLICE_REG] = regs[SLICE_REG] + 1;
-        return t;
     }
     t
 }

@@ -9,10 +9,8 @@ pub tick-slice-spec : {M : Type 1} → statement M
 unfolding tickSlice put
 tick-slice-spec =
     tie.close (tie.spec
-    (λ c. search needs) (λ c. search needs)
-    (λ c. rw (yes-lt (c .before .if1 .taken), yes-eq (c .if2 .taken)))
-    (λ c. search needs)
-    (λ c. rw (yes-lt (c .before .before .if1 .taken), no-eq (c .before .if2 .left), no-eq (c .if3 .taken)))
-    (λ c. search needs) (λ c. search needs) (λ c. search needs)
-    (λ c. rw (yes-lt (c .before .before .if1 .taken), no-eq (c .before .if2 .left), yes-eq (c .if3 .left)))
+    (λ c. search needs) (λ c. search needs) (λ c. search needs) (λ c. search needs) (λ c. search needs) (λ c. search needs)
+    (λ c. rw (yes-lt (c .before .before .if1 .taken), no-eq (c .before .if2 .taken), yes-eq (c .if3 .taken)))
+    (λ c. rw (yes-lt (c .before .before .if1 .taken), no-eq (c .before .if2 .taken), no-eq (c .if3 .left)))
+    (λ c. rw (yes-lt (c .before .if1 .taken), yes-eq (c .if2 .left)))
     (λ c. rw (no-lt (c .if1 .left))))
