@@ -8,7 +8,7 @@ use lib.Seq.{sets}
 use Rattle.rules.specs.Tests.{ifLt}
 use Rattle.rules.proofs.Tests.{yes-lt, no-lt, cases-lt}
 use Rattle.assembly.specs.Listing.{digits}
-use Rattle.assembler.proofs.Stores.{sets-append}
+use Rattle.laws.proofs.Stores.{sets-append}
 
 -- the last digit
 abbrev pub last : ℕ → ℕ

@@ -13,7 +13,7 @@ use Rattle.rules.specs.Words.{withNibble}
 use Rattle.rules.proofs.Tests.{cases-lt}
 use Rattle.assembly.specs.Chain.{functionOf, isPrefix, afterPrefix}
 use Rattle.assembly.specs.Listing.{lineOf, bytesLine, listingFrom, listing}
-use Rattle.assembler.proofs.Stores.{sets-append}
+use Rattle.laws.proofs.Stores.{sets-append}
 use Rattle.assembler.proofs.Text.{bytes-length}
 
 abbrev pub seen : List ℕ → ℕ → ℕ → List ℕ

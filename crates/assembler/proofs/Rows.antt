@@ -9,10 +9,10 @@ use lib.Seq.{getD-append-add}
 use borrow.Author.Tests.{leb-true}
 use Rattle.rules.specs.Tests.{ifLt, look}
 use Rattle.rules.proofs.Tests.{cases-eq, yes-lt, no-lt}
+use Rattle.laws.proofs.Rows.{look-unlisted, bounded, unlisted-above}
 use Rattle.laws.proofs.LawfulOperations.{allBelow, all-below}
 use Rattle.assembly.specs.Names.{letters, functionNames, operationNames}
 use Rattle.assembly.specs.Listing.{space}
-use Rattle.assembly.proofs.Functions.{bounded, look-above}
 use Rattle.assembler.specs.Table.{nameAt, rowOf, rowsUpTo}
 
 pub names-short : (row : ℕ) → row < 144 → length (nameAt row) ≤ 11
@@ -70,4 +70,4 @@ operation-row k =
 -- no operation from 127 on has a name
 pub no-operation : (k : ℕ) → 127 ≤ k → nameAt 143 ≡ look operationNames k []
 unfolding bounded operationNames
-no-operation k h = operation-row 127 ∙ sym (look-above 127 operationNames [] refl k h)
+no-operation k h = operation-row 127 ∙ sym (look-unlisted operationNames k [] (unlisted-above 127 operationNames refl k h))

@@ -12,7 +12,7 @@ use Rattle.rules.proofs.Tests.{yes-lt, no-lt, yes-eq, no-eq}
 use Rattle.assembly.specs.Names.{functionNames, operationNames}
 use Rattle.assembly.specs.Listing.{space, newline, minusSign, digits, decimal, hexDigit, functionLine, nameOr, lineOf, separator, bytesLine}
 use Rattle.assembler.specs.Table.{nameAt}
-use Rattle.assembler.proofs.Stores.{sets-append}
+use Rattle.laws.proofs.Stores.{sets-append}
 use Rattle.assembler.proofs.Rows.{function-row}
 
 pub up-decimal : (x : ℕ) → x < 2 ^ 31 → decimal x ≡ digits 10 x

@@ -28,7 +28,7 @@ chain-parts n function operand = refl
 
 pub up-prefix : {v : ℕ} → v < 2 ^ 31 → prefixOf v ≡ pfix
 unfolding prefixOf
-up-prefix h = yes-lt h pfix nfix
+up-prefix h = rw (yes-lt h)
 
 pub up-upper : {v : ℕ} → v < 2 ^ 31 → upperOf v ≡ v / 16
 unfolding upperOf
@@ -36,7 +36,7 @@ up-upper {v} h = rw (yes-lt h)
 
 pub down-prefix : {v : ℕ} → 2 ^ 31 ≤ v → prefixOf v ≡ nfix
 unfolding prefixOf
-down-prefix h = no-lt h pfix nfix
+down-prefix h = rw (no-lt h)
 
 pub down-upper : {v : ℕ} → 2 ^ 31 ≤ v → upperOf v ≡ (range - 1 - v) / 16
 unfolding upperOf

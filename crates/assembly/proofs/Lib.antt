@@ -2,6 +2,7 @@ pub mod Worked
 pub mod Reading
 pub mod Exact
 pub mod Shortest
+pub mod Filled
 pub mod Functions
 pub mod Meeting
 pub mod Listed

@@ -2,13 +2,13 @@
 use mathlib.Core.Path.{_≡_, refl, sym, ap}
 use mathlib.Core.List.{List, [], _∷_, _++_}
 use Prim.Native.Nat.{ℕ, zero, suc, _+_, _-_, _*_, _<_}
-use native.Mathlib.Nat.{add-suc, suc-add, add-zero}
 use native.Mathlib.Omega.{arith}
 use native.Mathlib.Numerals.{add-one}
 use lib.ListN.{length, getD, set, take}
 use lib.Seq.{slice, sets, length-take-le}
 use Rattle.rules.specs.Registers.{registers}
 use Rattle.rules.specs.Journal.{olds, recordOf}
+use Rattle.laws.proofs.Stores.{sets-append}
 use Rattle.laws.proofs.Touched.{length-olds}
 use Rattle.journal_record.specs.Indices.{range}
 use Rattle.journal_record.specs.Outline.{Outlined, listed}
@@ -16,10 +16,6 @@ use Rattle.journal_record.specs.declared.touched.Outline.{Outline}
 use Rattle.journal_record.proofs.Sorting.{range-length}
 
 -- ---- lists written one after the other
-
-pub sets-append : (l : List ℕ) (i : ℕ) (a b : List ℕ) → sets l i (a ++ b) ≡ sets (sets l i a) (i + length a) b
-sets-append l i [] b = rw (add-zero i)
-sets-append l i (x ∷ a) b = rw (add-suc i (length a), ← suc-add i (length a)) (sets-append (set l i x) (suc i) a b)
 
 olds-append : (m a b : List ℕ) → olds m (a ++ b) ≡ olds m a ++ olds m b
 unfolding olds

@@ -16,10 +16,10 @@ use Rattle.rules.specs.declared.Machine.{Machine}
 use Rattle.rules.proofs.Tests.{yes-lt, no-lt, yes-eq, cases-lt, cases-eq}
 use Rattle.step_fast.specs.declared.FastStep.{FastStep}
 use Rattle.step_fast.specs.Fast.{storesOf, fastWork}
+use Rattle.laws.proofs.Stores.{sets-append}
 use Rattle.laws.proofs.Single.{touched-none, touched-one, touched-past, stores-one, stores-past, stores-no}
 use Rattle.journal_record.specs.Indices.{range}
 use Rattle.journal_record.proofs.Sorting.{range-length}
-use Rattle.journal_record.proofs.Written.{sets-append}
 use Rattle.journal_record.proofs.Outcomes.{commit-full}
 use Rattle.laws.proofs.Touched.{length-olds}
 use Rattle.journal_small.specs.Count.{Counted, made}

@@ -1,10 +1,11 @@
--- A property of every row of a table holds of the entry for a code.
+-- A property of every row of a table holds of the entry for a code; and which codes have a row.
 use mathlib.Core.Path.{_≡_, refl, sym, subst}
 use mathlib.Core.Bool.{Bool, true, false}
 use mathlib.Core.List.{List, [], _∷_, _++_}
-use Prim.Native.Nat.{ℕ}
-use borrow.Author.Tests.{eqb-true}
-use lib.Dec.{eqb}
+use Prim.Native.Nat.{ℕ, _≤_}
+use native.Mathlib.Omega.{arith}
+use borrow.Author.Tests.{eqb-true, ne-eqb, ltb-true}
+use lib.Dec.{eqb, ltb}
 use Rattle.rules.specs.Tests.{pick, look}
 use Rattle.laws.specs.Lists.{listed}
 use Rattle.laws.proofs.Calm.{never}
@@ -17,6 +18,35 @@ look-unlisted (e ∷ t) k d h = go (eqb k (e .0)) h (look-unlisted t k d)
     go : (b : Bool) → pick b true (listed k t) ≡ false → (listed k t ≡ false → look t k d ≡ d) → pick b (e .1) (look t k d) ≡ d
     go true z f = never (sym z)
     go false z f = f z
+
+-- every code of a table is below a number
+unfoldable pub bounded : {X : Type 0} → ℕ → List (ℕ × X) → Bool
+bounded n [] = true
+bounded n (e ∷ t) = pick (ltb (e .0) n) (bounded n t) false
+
+-- from that number on, none has a row
+pub unlisted-above : {X : Type 0} (n : ℕ) (t : List (ℕ × X)) → bounded n t ≡ true → (k : ℕ) → n ≤ k → listed k t ≡ false
+unfolding bounded
+unlisted-above n [] h k l = refl
+unlisted-above n (e ∷ t) h k l = go (ltb (e .0) n) refl h (unlisted-above n t)
+  where
+    go : (b : Bool) → ltb (e .0) n ≡ b → pick b (bounded n t) false ≡ true → (bounded n t ≡ true → (k : ℕ) → n ≤ k → listed k t ≡ false)
+        → pick (eqb k (e .0)) true (listed k t) ≡ false
+    go true q z f = rw (ne-eqb k (e .0) (λ s. omega (arith, s, ltb-true (e .0) n q))) (f z k l)
+    go false q z f = never z
+
+-- two tests agree, as a test
+unfoldable pub same : Bool → Bool → Bool
+same true b = b
+same false true = false
+same false false = true
+
+pub is-same : (a b : Bool) → same a b ≡ true → a ≡ b
+unfolding same
+is-same true true h = refl
+is-same true false h = never h
+is-same false true h = never h
+is-same false false h = refl
 
 -- every row, of a code and what stands there, has the property K
 infixr 5 _&_

@@ -3,10 +3,11 @@ use mathlib.Core.Path.{_≡_, refl, sym, _∙_}
 use mathlib.Core.Bool.{Bool, true, false, _&&_}
 use mathlib.Core.List.{List, [], _∷_, _++_}
 use Prim.Native.Nat.{ℕ, zero, suc, _+_, _/_, _%_}
+use native.Mathlib.Nat.{add-suc, suc-add, add-zero}
 use borrow.Author.Tests.{eqb-false}
 use lib.Dec.{eqb}
-use lib.ListN.{length, getD, length-set}
-use lib.Seq.{getD-set-other}
+use lib.ListN.{length, getD, set, length-set}
+use lib.Seq.{sets, getD-set-other}
 use Rattle.rules.specs.Tests.{pick}
 use Rattle.rules.specs.Words.{withByte}
 use Rattle.rules.specs.Memory.{Store, word, bytes, byteIn, setByteIn, moved, within, storing, stores, covers, touches, hit}
@@ -43,6 +44,11 @@ pub stores-append : (m : List ℕ) (ss ts : List Store) → stores m (ss ++ ts) 
 unfolding stores
 stores-append m [] ts = refl
 stores-append m (s ∷ ss) ts = stores-append (storing m s) ss ts
+
+-- two lists of words, written one after the other
+pub sets-append : (l : List ℕ) (i : ℕ) (a b : List ℕ) → sets l i (a ++ b) ≡ sets (sets l i a) (i + length a) b
+sets-append l i [] b = rw (add-zero i)
+sets-append l i (x ∷ a) b = rw (add-suc i (length a), ← suc-add i (length a)) (sets-append (set l i x) (suc i) a b)
 
 -- ---- a word that no store touches
 

@@ -4,13 +4,13 @@ use mathlib.Core.Bool.{Bool, true, false, _&&_, _||_}
 use mathlib.Core.List.{List, [], _∷_}
 use Prim.Native.Nat.{ℕ, suc, _+_, _≤_, _<_}
 use native.Mathlib.Omega.{arith}
-use borrow.Author.Tests.{lt-leb, ne-eqb, ltb-true}
-use lib.Dec.{ltb, leb, eqb}
-use Rattle.rules.specs.Tests.{pick}
-use Rattle.rules.specs.Operations.{Action, registerOperations, otherOperations, operations}
+use borrow.Author.Tests.{lt-leb}
+use lib.Dec.{leb}
+use Rattle.rules.specs.Operations.{registerOperations, otherOperations, operations}
 use Rattle.rules.proofs.Tests.{cases-lt}
 use Rattle.laws.specs.Lists.{listed}
-use Rattle.laws.proofs.Calm.{never, and-false}
+use Rattle.laws.proofs.Calm.{and-false}
+use Rattle.laws.proofs.Rows.{bounded, unlisted-above, same, is-same}
 use Rattle.laws.proofs.LawfulOperations.{allBelow, all-below}
 use Rattle.refusals.specs.Conditions.{builtRanges, inRanges, isBuilt}
 
@@ -21,37 +21,11 @@ bound : List (ℕ × ℕ) → ℕ
 bound [] = 0
 bound (r ∷ rs) = suc (r .1) + bound rs
 
-same : Bool → Bool → Bool
-same true b = b
-same false true = false
-same false false = true
-
-is-same : (a b : Bool) → same a b ≡ true → a ≡ b
-unfolding same
-is-same true true h = refl
-is-same true false h = never h
-is-same false true h = never h
-is-same false false h = refl
-
 built-below : (k : ℕ) → k < bound builtRanges → isBuilt k ≡ listed k operations
 unfolding allBelow bound builtRanges registerOperations otherOperations operations isBuilt inRanges same
 built-below k h = is-same _ _ (all-below (bound builtRanges) (λ k. same (isBuilt k) (listed k operations)) refl k h)
 
 -- ---- from the bound on: neither
-
-bounded : ℕ → List (ℕ × Action) → Bool
-bounded n [] = true
-bounded n (e ∷ t) = pick (ltb (e .0) n) (bounded n t) false
-
-unlisted-above : (n : ℕ) (t : List (ℕ × Action)) → bounded n t ≡ true → (k : ℕ) → n ≤ k → listed k t ≡ false
-unfolding bounded
-unlisted-above n [] h k l = refl
-unlisted-above n (e ∷ t) h k l = go (ltb (e .0) n) refl h (unlisted-above n t)
-  where
-    go : (b : Bool) → ltb (e .0) n ≡ b → pick b (bounded n t) false ≡ true → (bounded n t ≡ true → (k : ℕ) → n ≤ k → listed k t ≡ false)
-        → pick (eqb k (e .0)) true (listed k t) ≡ false
-    go true q z f = rw (ne-eqb k (e .0) (λ s. omega (arith, s, ltb-true (e .0) n q))) (f z k l)
-    go false q z f = never z
 
 past : (a b k : ℕ) → b < k → (leb a k && leb k b) ≡ false
 past a b k h = rw (lt-leb k b h) (and-false (leb a k))

@@ -6,3 +6,4 @@ pub mod code;
 pub mod measure;
 pub mod scenario;
 pub mod table;
+pub mod text;

@@ -23,11 +23,9 @@ fn room(name: &str) -> PathBuf {
     std::env::temp_dir().join(format!("bench-{}.{name}", std::process::id()))
 }
 
-/// The case as an open file. From a pipe a program would read it in parts, and not in the same
+/// An input as an open file. From a pipe a program would read it in parts, and not in the same
 /// parts each time, so that the counts would differ.
-fn input(scenario: &Scenario, rounds: u32) -> std::io::Result<File> {
-    let mut bytes = Vec::new();
-    put_case(&mut bytes, &scenario.case(rounds));
+fn input(bytes: &[u8]) -> std::io::Result<File> {
     let place = room("case");
     let mut file = File::options()
         .read(true)
@@ -36,20 +34,31 @@ fn input(scenario: &Scenario, rounds: u32) -> std::io::Result<File> {
         .truncate(true)
         .open(&place)?;
     std::fs::remove_file(&place)?;
-    file.write_all(&bytes)?;
+    file.write_all(bytes)?;
     file.rewind()?;
     Ok(file)
 }
 
 /// Runs a command on a scenario. It has to answer what the second emulator does, every call
 /// accepted.
-fn run(mut command: Command, scenario: &Scenario, rounds: u32) -> Result<Outcome, String> {
-    let name = format!("{:?}", command.get_program());
-    let tell = |text: &str| format!("{name}, {}: {text}", scenario.name);
-    let fail = |error: std::io::Error| tell(&error.to_string());
-    let mut wanted = Vec::new();
+fn run(command: Command, scenario: &Scenario, rounds: u32) -> Result<Outcome, String> {
+    let (mut bytes, mut wanted) = (Vec::new(), Vec::new());
+    put_case(&mut bytes, &scenario.case(rounds));
     put_response(&mut wanted, &scenario.response(rounds)?);
-    command.stdin(input(scenario, rounds).map_err(fail)?);
+    run_on(command, scenario.name, &bytes, &wanted)
+}
+
+/// Runs a command on an input. It has to write what is wanted.
+fn run_on(
+    mut command: Command,
+    line: &str,
+    bytes: &[u8],
+    wanted: &[u8],
+) -> Result<Outcome, String> {
+    let name = format!("{:?}", command.get_program());
+    let tell = |text: &str| format!("{name}, {line}: {text}");
+    let fail = |error: std::io::Error| tell(&error.to_string());
+    command.stdin(input(bytes).map_err(fail)?);
     command.stdout(Stdio::piped()).stderr(Stdio::piped());
     let begun = Instant::now();
     let mut child = command.spawn().map_err(fail)?;
@@ -64,6 +73,23 @@ fn run(mut command: Command, scenario: &Scenario, rounds: u32) -> Result<Outcome
         return Err(tell(&said));
     }
     Ok(Outcome { complaint, took })
+}
+
+/// The best of several times that a program takes for an input, less its best time for none.
+/// Seconds.
+pub fn seconds_of_input(
+    program: &Program,
+    line: &str,
+    bytes: &[u8],
+    wanted: &[u8],
+    runs: u32,
+) -> Result<f64, String> {
+    let (mut none, mut all) = (Duration::MAX, Duration::MAX);
+    for _ in 0..runs {
+        none = none.min(run_on(program.command()?, line, &[], &[])?.took);
+        all = all.min(run_on(program.command()?, line, bytes, wanted)?.took);
+    }
+    Ok(all.saturating_sub(none).as_secs_f64())
 }
 
 /// How long a process has been on a processor; it has closed its output and is not waited for yet.

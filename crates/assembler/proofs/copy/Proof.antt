@@ -2,8 +2,8 @@ use borrow.Author.Needs.{needs}
 use native.Mathlib.Omega.{arith}
 use mathlib.Core.Path.{_≡_, refl, sym, ap, _∙_}
 use mathlib.Core.List.{List, []}
-use Prim.Native.Nat.{ℕ, _+_, _-_, _≤_, _<_}
-use lib.ListN.{length, take, drop, getD, length-set, drop-of-length-le, length-take}
+use Prim.Native.Nat.{ℕ, _-_, _≤_, _<_}
+use lib.ListN.{length, take, drop, length-set, drop-of-length-le}
 use lib.Seq.{sets, getD-take, length-take-le}
 use Rattle.assembler.proofs.Stores.{sets-next}
 use Rattle.assembler.proofs.copy.Statement.{statement}
@@ -57,10 +57,7 @@ copy-spec =
     Inv-loop
     μ-loop
     loop-holds
-    (λ c. search needs)
-    (λ c. search needs)
-    (λ c. search needs)
-    (λ c. search needs)
+    (λ c. search needs) (λ c. search needs) (λ c. search needs) (λ c. search needs)
     loop-again
     same-length
     returns)

@@ -1,7 +1,6 @@
-use native.Mathlib.Omega.{arith}
-use Prim.Native.Nat.{ℕ, _+_, _-_, _≤_, _<_}
-use mathlib.Core.Path.{_≡_, refl, sym, _∙_}
-use lib.ListN.{length, length-set}
+use Prim.Native.Nat.{_-_, _≤_}
+use mathlib.Core.Path.{_≡_}
+use lib.ListN.{length}
 use borrow.Author.Needs.{needs}
 use Rattle.t414_list.proofs.put_unfinished.Statement.{statement}
 use Rattle.t414_list.proofs.put_unfinished.Tie as tie
@@ -12,61 +11,12 @@ Inv-loop code from text₀ start end₀ at₀ text end at = (at ≤ length code)
 abbrev μ-loop : tie.MeasureT-loop
 μ-loop code from text₀ start end₀ at₀ text end at = length code - at
 
-loop-holds : tie.Need-loop-holds Inv-loop μ-loop
-loop-holds c = search needs
-
-last-of-piece-requires : tie.Need-last-of-piece-requires Inv-loop μ-loop
-last-of-piece-requires c κs = search needs
-
-add-next : tie.Need-add-next Inv-loop μ-loop
-add-next c = search needs
-
-flushed-requires : tie.Need-flushed-requires Inv-loop μ-loop
-flushed-requires c κs = search needs
-
-sub-put-listing : tie.Need-sub-put-listing Inv-loop μ-loop
-sub-put-listing c = search needs
-
-part-put-listing-start : tie.Need-part-put-listing-start Inv-loop μ-loop
-part-put-listing-start c = search needs
-
-part-put-listing-end : tie.Need-part-put-listing-end Inv-loop μ-loop
-part-put-listing-end c = search needs
-
-put-listing-requires : tie.Need-put-listing-requires Inv-loop μ-loop
-put-listing-requires c κs = search needs
-
-join-requires : tie.Need-join-requires Inv-loop μ-loop
-join-requires c κs = search needs
-
-loop-less : tie.Need-loop-less Inv-loop μ-loop
-loop-less c = search needs
-
-loop-again : tie.Need-loop-again Inv-loop μ-loop
-loop-again c = search needs
-
-same-length : tie.Need-same-length Inv-loop μ-loop
-same-length c = search needs
-
-returns : tie.Need-returns Inv-loop μ-loop
-returns c = search needs
-
 pub put-unfinished-spec : {M : Type 1} → statement M
 put-unfinished-spec =
     tie.close
     (tie.spec
     Inv-loop
     μ-loop
-    loop-holds
-    last-of-piece-requires
-    add-next
-    flushed-requires
-    sub-put-listing
-    part-put-listing-start
-    part-put-listing-end
-    put-listing-requires
-    join-requires
-    loop-less
-    loop-again
-    same-length
-    returns)
+    (λ c. search needs) (λ c κs. search needs) (λ c. search needs) (λ c κs. search needs) (λ c. search needs) (λ c. search needs)
+    (λ c. search needs) (λ c κs. search needs) (λ c κs. search needs) (λ c. search needs) (λ c. search needs) (λ c. search needs)
+    (λ c. search needs))

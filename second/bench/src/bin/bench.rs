@@ -14,6 +14,7 @@ use comparer::side::Side;
 const USAGE: &str = "\
 bench [--counts | --times] [--runs N] [--calls N] [--lines LIST] [PROGRAM_A PROGRAM_B]
 bench --check [PROGRAM_A PROGRAM_B]
+bench --text [--runs N] [ASSEMBLER LISTER]
 bench --input LINE ROUNDS
 Without --counts or --times, both are measured. A program is a path, a name (beside bench, else
 Rattle's target/bin) or rattle:PATH; t414_batch and second_batch if none are given. Each has to
@@ -22,6 +23,8 @@ answer what the second emulator does.
 --times       calls a second, the best of --runs (7) runs of about --calls (500,000) calls
 --lines LIST  only these lines: arithmetic,call,channel,move,nothing,tick
 --check       measure nothing: hold the responses to each line and to refused ones against each other
+--text        how much the assembler and the listing write in a second; t414_asm and t414_list if
+              none are given, the best of --runs (7) runs
 --input       write a line's case for so many rounds to standard output";
 
 struct Arguments {
@@ -35,6 +38,7 @@ fn main() -> ExitCode {
     let outcome = match given.split_first() {
         Some((first, rest)) if first == "--input" => input(rest),
         Some((first, rest)) if first == "--check" => check(rest),
+        Some((first, rest)) if first == "--text" => text(rest),
         Some((first, _)) if first == "--help" => {
             println!("{USAGE}");
             Ok(())
@@ -104,6 +108,24 @@ fn check(given: &[String]) -> Result<(), String> {
         }
     }
     println!("{a} against {b}: {} cases of repeat, 0 differ", cases.len());
+    Ok(())
+}
+
+/// A row for the assembler and one for the listing.
+fn text(given: &[String]) -> Result<(), String> {
+    let (runs, places) = match given {
+        [flag, runs, rest @ ..] if flag == "--runs" => (runs.parse().map_err(|_| USAGE)?, rest),
+        rest => (7, rest),
+    };
+    let [assembler, lister] = match places {
+        [] => ["t414_asm", "t414_list"],
+        [assembler, lister] => [assembler.as_str(), lister.as_str()],
+        _ => return Err(USAGE.into()),
+    };
+    println!("{}", bench::text::HEADING);
+    for row in bench::text::rows(assembler, lister, runs)? {
+        println!("{row}");
+    }
     Ok(())
 }
 

@@ -10,6 +10,7 @@ mod tool;
 
 pub use chain::{chains, Chain, NFIX, PFIX};
 pub use hold::{hold_assembler, hold_both, hold_lister, Findings};
+pub use inputs::program;
 pub use slips::Slip;
 pub use tool::{Assembled, Tool};
 

@@ -9,7 +9,7 @@ use lib.ListN.{length, set, length-append}
 use lib.Seq.{sets}
 use Rattle.assembly.specs.Chain.{prefixOf, upperOf, chain}
 use Rattle.assembly.proofs.Exact.{final, chain-short, chain-longer, upper-falls, levels-length}
-use Rattle.assembler.proofs.Stores.{sets-append}
+use Rattle.laws.proofs.Stores.{sets-append}
 use borrow.Fn.Kinds.{In}
 use borrow.Fn.PlainCycle.{Measures, is, falls, and}
 use Rattle.assembler.proofs.chains.write.Reads as write

@@ -8,8 +8,7 @@ pub function-size-spec : {M : Type 1} → statement M
 function-size-spec =
     tie.close
     (tie.spec
-    (λ c κs. search needs)
-    (λ c κs. search needs)
+    (λ c κs. search needs) (λ c κs. search needs)
     (λ c. omega (arith, c .before .name-size .ensures .1, c .operand-size .ensures .1))
     (λ c. omega (arith, c .before .name-size .ensures .1, c .operand-size .ensures .1))
     (λ c.

@@ -2,7 +2,7 @@ use borrow.Author.Needs.{needs}
 use native.Mathlib.Omega.{arith}
 use mathlib.Core.Path.{_≡_, sym, ap, _∙_}
 use mathlib.Core.Logic.{⊎-elim}
-use Prim.Native.Nat.{_<_, _≤_}
+use Prim.Native.Nat.{_<_}
 use lib.ListN.{length}
 use Rattle.assembly.specs.Listing.{functionLine, lineOf}
 use Rattle.assembler.specs.Table.{nameAt}
@@ -14,8 +14,7 @@ pub line-size-spec : {M : Type 1} → statement M
 line-size-spec =
     tie.close
     (tie.spec
-    (λ c κs. search needs)
-    (λ c κs. search needs)
+    (λ c κs. search needs) (λ c κs. search needs)
     (λ c. omega (arith, c .before .name-size .ensures .1))
     (λ c.
     let Z = c .before in

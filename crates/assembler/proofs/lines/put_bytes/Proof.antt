@@ -1,10 +1,10 @@
 use borrow.Author.Needs.{needs}
 use native.Mathlib.Omega.{arith}
 use mathlib.Core.Path.{_≡_, refl, sym, ap, _∙_}
-use mathlib.Core.List.{List, []}
-use Prim.Native.Nat.{ℕ, _+_, _-_, _*_, _≤_, _<_}
-use lib.ListN.{length, drop, length-drop, drop-of-length-le}
-use lib.Seq.{sets, length-sets}
+use mathlib.Core.List.{List}
+use Prim.Native.Nat.{ℕ, _+_, _-_, _*_, _≤_}
+use lib.ListN.{length, drop, length-drop}
+use lib.Seq.{sets}
 use Rattle.assembly.specs.Listing.{bytesLine}
 use Rattle.assembler.proofs.Text.{bytes-length, bytes-next, bytes-none}
 use Rattle.assembler.proofs.lines.put_bytes.Statement.{statement}
@@ -72,9 +72,7 @@ put-bytes-spec =
     Inv-loop
     μ-loop
     loop-holds
-    (λ c. search needs)
-    (λ c. search needs)
-    (λ c κs. search needs)
+    (λ c. search needs) (λ c. search needs) (λ c κs. search needs)
     (λ c κs. let I = c .before .before .before in let inv = I .before .loop .inv in omega (arith, inv .count, inv .room, inv .len, I .loop-test .taken))
     (λ c.
     let I = c .before .before .before .before .before .before in

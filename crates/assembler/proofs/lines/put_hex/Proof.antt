@@ -10,10 +10,7 @@ pub put-hex-spec : {M : Type 1} → statement M
 put-hex-spec =
     tie.close
     (tie.spec
-    (λ c κs. search needs)
-    (λ c. search needs)
-    (λ c κs. search needs)
-    (λ c. search needs)
+    (λ c κs. search needs) (λ c. search needs) (λ c κs. search needs) (λ c. search needs)
     (λ c. let a = c .before .before .before .args in omega (arith, length-set (a .text .now) (a .at) (c .before .hex-digit .result)))
     (λ c. search needs)
     (λ c.

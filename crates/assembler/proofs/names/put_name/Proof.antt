@@ -89,19 +89,13 @@ put-name-spec =
     (tie.spec
     Inv-loop
     μ-loop
-    (λ c. search needs)
-    (λ c. search needs)
-    (λ c κs. search needs)
+    (λ c. search needs) (λ c. search needs) (λ c κs. search needs)
     loop-holds
     (λ c. search needs)
     (λ c.
     let inv = c .before .before .loop .inv in
     omega (arith, ap length (inv .table), rows-length 144 (omega arith), inv .row-small, inv .small, c .before .loop-test .taken))
-    (λ c. search needs)
-    (λ c. search needs)
-    (λ c. search needs)
-    (λ c. search needs)
+    (λ c. search needs) (λ c. search needs) (λ c. search needs) (λ c. search needs)
     loop-again
-    (λ c. search needs)
-    (λ c. search needs)
+    (λ c. search needs) (λ c. search needs)
     returns)

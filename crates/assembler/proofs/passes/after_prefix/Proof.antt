@@ -11,8 +11,7 @@ unfolding afterPrefix
 after-prefix-spec =
     tie.close
     (tie.spec
-    (λ c κs. search needs)
-    (λ c κs. search needs)
+    (λ c κs. search needs) (λ c κs. search needs)
     (λ c. rw (yes-eq (c .before .if1 .taken)) (c .prefixed .ensures ∙ ap prefixed (c .before .before .with-nibble .ensures)))
     (λ c κs. search needs)
     (λ c. rw (no-eq (c .before .if1 .left)) (c .negative-prefixed .ensures ∙ ap negativePrefixed (c .before .before .with-nibble .ensures))))

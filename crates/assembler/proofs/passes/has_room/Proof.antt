@@ -1,7 +1,7 @@
 use borrow.Author.Needs.{needs}
 use native.Mathlib.Omega.{arith}
 use mathlib.Core.Path.{_≡_, sym, _∙_}
-use Prim.Native.Nat.{ℕ, _-_}
+use Prim.Native.Nat.{_-_}
 use lib.ListN.{length}
 use Rattle.assembler.specs.Table.{rowsUpTo}
 use Rattle.assembler.proofs.Rest.{Measured, measured-start, measured-prefix, measured-line, measured-short, measured-end}
@@ -67,16 +67,9 @@ has-room-spec =
     Inv-loop
     μ-loop
     (λ c. let S = c .before .before in (measured-start (S .args .code .now) (S .args .room), S .pre))
-    (λ c. search needs)
-    (λ c κs. search needs)
-    (λ c. search needs)
-    (λ c κs. search needs)
-    (λ c κs. search needs)
-    (λ c. search needs)
+    (λ c. search needs) (λ c κs. search needs) (λ c. search needs) (λ c κs. search needs) (λ c κs. search needs) (λ c. search needs)
     loop-again
-    (λ c κs. search needs)
-    (λ c κs. search needs)
-    (λ c κs. search needs)
+    (λ c κs. search needs) (λ c κs. search needs) (λ c κs. search needs)
     returns
     (λ c. search needs)
     loop-again-2

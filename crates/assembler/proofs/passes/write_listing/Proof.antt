@@ -1,7 +1,7 @@
 use borrow.Author.Needs.{needs}
 use native.Mathlib.Omega.{arith}
 use mathlib.Core.Path.{_≡_, sym, _∙_}
-use Prim.Native.Nat.{ℕ, _-_}
+use Prim.Native.Nat.{_-_}
 use lib.ListN.{length}
 use Rattle.assembler.specs.Table.{rowsUpTo}
 use Rattle.assembler.proofs.Rest.{Listed, listed-start, listed-prefix, listed-fits, listed-line, listed-end-fits, listed-end}
@@ -84,15 +84,9 @@ write-listing-spec =
     Inv-loop
     μ-loop
     (λ c. let S = c .before .before .before in (listed-start (S .args .code .now) (S .args .text .now) (S .pre .0), S .pre .1))
-    (λ c. search needs)
-    (λ c κs. search needs)
-    (λ c. search needs)
-    (λ c κs. search needs)
-    (λ c κs. search needs)
-    (λ c. search needs)
+    (λ c. search needs) (λ c κs. search needs) (λ c. search needs) (λ c κs. search needs) (λ c κs. search needs) (λ c. search needs)
     loop-again
-    (λ c κs. search needs)
-    (λ c κs. search needs)
+    (λ c κs. search needs) (λ c κs. search needs)
     put-line-requires
     (λ c. search needs)
     loop-again-2
