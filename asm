@@ -3,7 +3,7 @@
 # The program is crates/t414_asm. It is built where it is missing or older than a source.
 set -euo pipefail
 
-here=$(cd -- "$(dirname -- "${BASH_SOURCE[0]}")" && pwd -P)
+here=$(dirname -- "$(readlink -f -- "${BASH_SOURCE[0]}")")
 called=asm
 name=t414_asm
 # shellcheck source=tools/launch

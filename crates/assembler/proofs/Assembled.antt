@@ -1,21 +1,17 @@
 -- The four answers of assemble and the two of list, each from the tests that lead to it.
-use mathlib.Core.Path.{_≡_, refl, sym, ap, _∙_}
+use mathlib.Core.Path.{_≡_, ap}
 use mathlib.Core.Bool.{true, false}
-use mathlib.Core.List.{List, [], _∷_, _++_}
+use mathlib.Core.List.{List}
 use Prim.Native.Nat.{ℕ, _≤_, _<_}
 use native.Mathlib.Omega.{arith}
 use lib.ListN.{length, take}
-use lib.Seq.{sets, sets-eq, take-at}
+use lib.Seq.{sets}
 use Rattle.rules.proofs.Tests.{yes-lt, no-lt}
 use Rattle.assembly.specs.Chain.{chain}
 use Rattle.assembly.specs.Listing.{listing}
-use Rattle.assembly.specs.Calls.{Outcome, numberOf, outcomeOf, refused, writeOrRefuse, functionBad, assemble, list}
+use Rattle.assembly.specs.Calls.{numberOf, outcomeOf, writeOrRefuse, functionBad, assemble, list}
 use Rattle.assembly.specs.declared.Verdict.the-variants.{Done, BadFunction, TooLong, NoRoom}
-use Rattle.assembly.specs.declared.Written.{Written}
-
--- the bytes that were written into a longer array
-pub written-bytes : (bytes array : List ℕ) → length bytes ≤ length array → take (length bytes) (sets array 0 bytes) ≡ bytes
-written-bytes bytes array h = rw (sets-eq bytes array 0 (omega arith)) (take-at bytes _ (length bytes) refl)
+use Rattle.assembly.proofs.Demands.{written-bytes}
 
 module _ (f v : ℕ) (out : List ℕ) where
   pub bad-function : functionBad f ≡ true → outcomeOf (record { verdict = BadFunction; size = 0 }) out ≡ assemble f v out

@@ -1,5 +1,5 @@
 -- The lines of the listing: how long each is, and its stores one after the other.
-use mathlib.Core.Path.{_≡_, refl, sym, ap, _∙_}
+use mathlib.Core.Path.{_≡_, refl, _∙_}
 use mathlib.Core.List.{List, [], _∷_, _++_}
 use Prim.Native.Nat.{ℕ, suc, _+_, _-_, _*_, _/_, _%_, _^_, _≤_, _<_}
 use native.Mathlib.Omega.{arith}
@@ -9,7 +9,7 @@ use lib.Seq.{sets, drop-cons}
 use Rattle.rules.specs.Tests.{look}
 use Rattle.rules.specs.Words.{range}
 use Rattle.rules.proofs.Tests.{yes-lt, no-lt, yes-eq, no-eq}
-use Rattle.assembly.specs.Names.{functionNames, operationNames}
+use Rattle.assembly.specs.Names.{operationNames}
 use Rattle.assembly.specs.Listing.{space, newline, minusSign, digits, decimal, hexDigit, functionLine, nameOr, lineOf, separator, bytesLine}
 use Rattle.assembler.specs.Table.{nameAt}
 use Rattle.laws.proofs.Stores.{sets-append}

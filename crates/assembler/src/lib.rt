@@ -27,6 +27,7 @@ fn function_bad(function: u32) -> bool
     function == chains::NFIX
 }
 
+// Makes the reply of a refusal: nothing is written.
 fn refused(verdict: Verdict) -> Written
     ensures { λ r. ⌜ r ≡ record { verdict = verdict; size = 0 } ⌝ }
 {

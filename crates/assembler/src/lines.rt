@@ -94,10 +94,10 @@ fn put_function(function: usize, operand: u32, text: &mut [u8], at: usize, names
 fn operation_row(operand: u32) -> usize
     ensures { λ r. ⌜ (r < 144) × (nameAt r ≡ look operationNames operand []) × (r ≡ operationRow operand) ⌝ }
 {
-    if operand < 127 {
+    if operand < names::CODES {
         return names::OPERATIONS + operand as usize;
     }
-    143
+    names::NAMELESS
 }
 
 // Counts the characters of a chain's line.

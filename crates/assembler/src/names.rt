@@ -8,8 +8,11 @@ ghost use Rattle.assembler.specs.Table.{rowsUpTo, nameAt};
 // The first row of an operation: rows 0 to 15 are the functions.
 pub(crate) const OPERATIONS: usize = 16;
 
-// The number of rows.
-const ROWS: usize = 144;
+// The operations with a row of their own have codes below this one.
+pub(crate) const CODES: u32 = 127;
+
+// The last row, which has no name.
+pub(crate) const NAMELESS: usize = 143;
 
 // The bytes of a row: the length of a name, and the name, filled up with spaces.
 const ROW: usize = 12;

@@ -1,22 +1,22 @@
 -- What follows from the two contracts. Each is total and has one answer only; a refusal leaves the output as it was; what assemble wrote is the chain,
--- in at most eight bytes, and list gives it back as the line of its function and operand.
+-- which gives the function its operand, and list gives it back as the line of its function and operand.
 use mathlib.Core.Path.{_≡_, refl, sym, ap, _∙_, subst}
-use mathlib.Core.Bool.{Bool, true, false}
+use mathlib.Core.Bool.{false}
 use mathlib.Core.List.{List, [], _∷_, _++_, append-nil}
 use Prim.Native.Nat.{ℕ, _^_, _≤_, _<_}
 use native.Mathlib.Omega.{arith}
 use lib.ListN.{length, take}
 use lib.Seq.{sets, sets-eq, take-at, length-sets}
-use Rattle.rules.specs.Tests.{pick, ifLt}
 use Rattle.rules.proofs.Tests.{yes-lt, no-lt, cases-lt, by-bool}
-use Rattle.assembly.specs.Chain.{chain}
+use Rattle.assembly.specs.Chain.{chain, functionOf}
+use Rattle.assembly.specs.Meeting.{Comes, stepsAfter, Meets}
 use Rattle.assembly.specs.Listing.{lineOf, listingFrom, listing, bytesLine}
 use Rattle.assembly.specs.Calls.{numberOf, Outcome, outcomeOf, refused, writeOrRefuse, functionBad, assemble, list, AssembleContract, ListContract}
 use Rattle.assembly.specs.declared.Verdict.{Verdict}
 use Rattle.assembly.specs.declared.Verdict.the-variants.{Done, BadFunction, TooLong, NoRoom}
 use Rattle.assembly.specs.declared.Written.{Written}
 use Rattle.assembly.proofs.Functions.{not-pfix, not-nfix}
-use Rattle.assembly.proofs.Shortest.{eight-enough}
+use Rattle.assembly.proofs.Meeting.{assembled-meets}
 use Rattle.assembly.proofs.Listed.{listed-assembled}
 
 -- ---- ONE ANSWER
@@ -118,11 +118,15 @@ list-refused code out r a p h = subst (Untouched out) (sym p) (untouched-written
 Holds : List ℕ → Outcome → Type 0
 Holds bytes o = o .answer ≡ 0 → take (o .size) (o .output) ≡ bytes
 
+-- the bytes that were written into a longer array
+pub written-bytes : (bytes array : List ℕ) → length bytes ≤ length array → take (length bytes) (sets array 0 bytes) ≡ bytes
+written-bytes bytes array h = rw (sets-eq bytes array 0 (omega arith)) (take-at bytes _ (length bytes) refl)
+
 holds-written : (bytes out : List ℕ) → Holds bytes (writeOrRefuse bytes out)
 unfolding writeOrRefuse Holds
 holds-written bytes out =
     cases-lt (length out) (length bytes) (λ l. rw (yes-lt l) (λ z. absurd (omega (arith, z))))
-    (λ g. rw (no-lt g) (λ z. rw (sets-eq bytes out 0 (omega arith)) (take-at bytes _ (length bytes) refl)))
+    (λ g. rw (no-lt g) (λ z. written-bytes bytes out g))
 
 holds-assemble : (f v : ℕ) (out : List ℕ) → Holds (chain f v) (assemble f v out)
 unfolding assemble Holds
@@ -136,6 +140,25 @@ pub assemble-writes : (f v : ℕ) (out : List ℕ) (r : Written) (a : List ℕ) 
 unfolding Holds
 assemble-writes f v out r a p z = subst (Holds (chain f v)) (sym p) (holds-assemble f v out) z
 
+-- and the function is not refused
+Good : ℕ → Outcome → Type 0
+Good f o = o .answer ≡ 0 → functionBad f ≡ false
+
+good-assemble : (f v : ℕ) (out : List ℕ) → Good f (assemble f v out)
+unfolding assemble Good
+good-assemble f v out = by-bool (functionBad f) (λ t. rw t (λ z. absurd (omega (arith, z)))) (λ t z. t)
+
+pub assemble-good : (f v : ℕ) (out : List ℕ) (r : Written) (a : List ℕ) → AssembleContract f v out r a → numberOf (r .verdict) ≡ 0 → functionBad f ≡ false
+unfolding Good
+assemble-good f v out r a p z = subst (Good f) (sym p) (good-assemble f v out) z
+
+-- THE CLAIM of what assemble wrote: where it stands at Iptr and nothing disturbs it, the final byte has the function, and meets the operand
+pub assemble-meets : (f v : ℕ) → v < 2 ^ 32 → (out : List ℕ) (r : Written) (a : List ℕ) → AssembleContract f v out r a → numberOf (r .verdict) ≡ 0
+    → (prefixes : List ℕ) (last : ℕ) → take (r .size) a ≡ prefixes ++ (last ∷ []) → (regs m : List ℕ) → Comes prefixes last regs m
+    → (functionOf last ≡ f) × (stepsAfter (length prefixes) regs m .1 ≡ m) × Meets last v (stepsAfter (length prefixes) regs m .0) m
+assemble-meets f v h out r a p z prefixes last e regs m c =
+    assembled-meets f v h (assemble-good f v out r a p z) prefixes last (sym (assemble-writes f v out r a p z) ∙ e) regs m c
+
 -- the text that list wrote is the listing
 pub list-writes : (code out : List ℕ) (r : Written) (a : List ℕ) → ListContract code out r a → numberOf (r .verdict) ≡ 0 → take (r .size) a ≡ listing code
 unfolding Holds list
@@ -148,10 +171,11 @@ listing-none : listing [] ≡ []
 unfolding listingFrom bytesLine
 listing-none = refl
 
-pub listed-back : (f v : ℕ) → v < 2 ^ 32 → functionBad f ≡ false → (out text : List ℕ) (r s : Written) (a b : List ℕ)
+pub listed-back : (f v : ℕ) → v < 2 ^ 32 → (out text : List ℕ) (r s : Written) (a b : List ℕ)
     → AssembleContract f v out r a → numberOf (r .verdict) ≡ 0 → ListContract (take (r .size) a) text s b → numberOf (s .verdict) ≡ 0
     → take (s .size) b ≡ lineOf f v
-listed-back f v h g out text r s a b p y q z =
+listed-back f v h out text r s a b p y q z =
+    let g = assemble-good f v out r a p y in
     list-writes (take (r .size) a) text s b q z
     ∙ ap listing (assemble-writes f v out r a p y ∙ sym (append-nil (chain f v)))
     ∙ listed-assembled f v [] h (not-pfix f g) (not-nfix f g)

@@ -3,13 +3,20 @@
 use mathlib.Core.Path.{_≡_, refl, ap, _∙_}
 use mathlib.Core.Logic.{inl}
 use mathlib.Core.List.{List, [], _∷_, _++_}
-use Prim.Native.Nat.{ℕ, zero, suc, _+_, _-_, _^_, _<_, _≤_}
+use Prim.Native.Nat.{ℕ, zero, suc, _+_, _-_, _^_, _<_}
 use native.Mathlib.Omega.{arith}
 use lib.ListN.{length, length-append}
-use Rattle.assembly.specs.Chain.{pfix, instruction, chain, afterPrefix, afterPrefixes, operandOf}
-use Rattle.assembly.specs.Meeting.{Prefixes}
+use Rattle.rules.specs.Tests.{ifLt, ifEq}
+use Rattle.rules.specs.Work.{put, access}
+use Rattle.rules.specs.Timers.{timerDue, timerReady}
+use Rattle.rules.specs.Channels.{requestFrom, requested}
+use Rattle.rules.specs.Step.{fetched}
+use Rattle.rules.specs.Calls.{codeWord, freshWord, freshMemory, freshRegs}
+use Rattle.assembly.specs.Chain.{pfix, instruction, chain, afterPrefixes, operandOf}
+use Rattle.assembly.specs.Calls.{functionBad}
+use Rattle.assembly.specs.Meeting.{Prefixes, Undisturbed, stepsAfter, NoneShorter}
 use Rattle.assembly.proofs.Reading.{is-prefix, after-pfix, after-append, prefixes-append}
-use Rattle.assembly.proofs.Exact.{before, final, chain-parts, chain-operand, all-prefixes, chain-short}
+use Rattle.assembly.proofs.Exact.{before, final, chain-parts, chain-operand, all-prefixes}
 use Rattle.assembly.proofs.Shortest.{eight-enough}
 
 -- prefixes of 0
@@ -20,6 +27,9 @@ zeros (suc n) = instruction pfix 0 ∷ zeros n
 -- the prefixes of an operand, filled up to seven
 abbrev pub filling : ℕ → ℕ → List ℕ
 filling f v = zeros (8 - length (chain f v)) ++ before 15 v
+
+abbrev pub filled : ℕ → ℕ → List ℕ
+filled f v = filling f v ++ (final f v ∷ [])
 
 zeros-prefixes : (n : ℕ) → Prefixes (zeros n)
 unfolding zeros
@@ -45,11 +55,16 @@ pub filled-operand : (f v : ℕ) → v < 2 ^ 32 → operandOf (filling f v) (fin
 filled-operand f v h =
     rw (after-append 0 (zeros (8 - length (chain f v))) (before 15 v), zeros-leave (8 - length (chain f v))) (chain-operand f v h)
 
-pub filled-eight : (f v : ℕ) → v < 2 ^ 32 → length (filling f v ++ (final f v ∷ [])) ≡ 8
+pub filled-eight : (f v : ℕ) → v < 2 ^ 32 → length (filled f v) ≡ 8
 filled-eight f v h =
     rw (length-append (filling f v) (final f v ∷ []), length-append (zeros (8 - length (chain f v))) (before 15 v), zeros-length (8 - length (chain f v)))
     (omega (arith, eight-enough f v h, ap length (chain-parts 15 f v) ∙ length-append (before 15 v) (final f v ∷ [])))
 
--- and it is not the shortest: of any operand of 0 to 15 the chain is one byte
-pub filled-longer : (f v : ℕ) → v < 16 → length (chain f v) < length (filling f v ++ (final f v ∷ []))
-filled-longer f v h = omega (arith, filled-eight f v (omega arith), ap length (chain-short f v h))
+-- and it is not the shortest: in a fresh machine with the code 40 one byte gives ldc the operand 0
+pub filled-not : NoneShorter filled → ⊥
+unfolding Undisturbed stepsAfter freshRegs freshMemory freshWord codeWord ifLt ifEq functionBad requested requestFrom timerReady timerDue fetched put access
+filled-not h =
+    omega (arith, filled-eight 0x4 0 (omega arith),
+    h 0x4 0 refl [] 0x40 tt refl (freshRegs 1) (freshMemory (0x40 ∷ []) 0 64)
+    (record { count = refl; clear = refl; stand = (omega arith, refl, tt); undisturbed = (omega arith, refl, refl) })
+    refl)

@@ -1,6 +1,6 @@
 -- THE LISTING of what was assembled gives back the mnemonic and the operand, or the operation's name: its first line is that of the function and
 -- the operand, and the rest is the listing of what follows.
-use mathlib.Core.Path.{_≡_, refl, sym, ap, _∙_, subst}
+use mathlib.Core.Path.{_≡_, sym, _∙_}
 use mathlib.Core.Bool.{false}
 use mathlib.Core.List.{List, [], _∷_, _++_, append-assoc}
 use Prim.Native.Nat.{ℕ, _^_, _<_}

@@ -1,25 +1,26 @@
 -- THE CLAIM over a step: in any machine where a chain's bytes stand at Iptr, Oreg is 0 and nothing disturbs the chain, the fetch of the final byte
 -- leaves the operand in Oreg. Of any list of prefixes and a final byte; of the chain of a function and an operand; and no shorter list does it.
 use mathlib.Core.Path.{_≡_, refl, sym, ap, _∙_, subst}
-use mathlib.Core.Logic.{_⊎_, inl, inr, ⊎-elim}
+use mathlib.Core.Logic.{_⊎_, inl, inr}
 use mathlib.Core.Bool.{false}
 use mathlib.Core.List.{List, [], _∷_, _++_}
-use Prim.Native.Nat.{ℕ, zero, suc, _+_, _/_, _^_, _≤_, _<_}
+use Prim.Native.Nat.{ℕ, _+_, _^_, _<_}
 use native.Mathlib.Omega.{arith}
 use lib.Bits.{bitAnd}
 use lib.ListN.{length, getD, set, take, length-set, length-append}
 use lib.Seq.{getD-set-same, getD-set-other, take-at, getD-at}
 use Rattle.rules.specs.Tests.{ifEq}
-use Rattle.rules.specs.Words.{atByte, index, selector, byteOf, withNibble}
+use Rattle.rules.specs.Words.{atByte, index, withNibble}
 use Rattle.rules.specs.Stack as stack
 use Rattle.rules.specs.Registers.{registers, iptrReg, oreg, statusReg, flagsReg, idleFlag, haltedFlag, coreOf, withCore}
 use Rattle.rules.specs.Memory.{Store, stores}
 use Rattle.rules.specs.declared.Core.{Core}
 use Rattle.rules.specs.Work.{Work, begin, reg, put, raise, putCore, onCore, refuse, refuseAt, idle, halted, wordAt, byteAt, access, kindFetch}
-use Rattle.rules.specs.Step.{haltIfAsked, haltOnError, fetched, execute, decode, instruction, instructionUnlessIdle, timersFirst, channelsFirst, choose, step}
+use Rattle.rules.specs.Step.{haltIfAsked, haltOnError, fetched, decode, instruction, instructionUnlessIdle, timersFirst, channelsFirst, choose, step}
 use Rattle.rules.proofs.Tests.{yes-lt, no-lt, yes-eq, no-eq, on-eq, cases-eq}
+use Rattle.laws.proofs.Fine.{length-withCore}
 use Rattle.assembly.specs.Chain.{pfix, nfix, chain, functionOf, afterPrefix, afterPrefixes, operandOf}
-use Rattle.assembly.specs.Meeting.{Prefixes, Stand, Quiet, regsAfter, memoryAfter, Undisturbed, Comes, stepsAfter, fetchedFrom, Meets}
+use Rattle.assembly.specs.Meeting.{Prefixes, Stand, Quiet, regsAfter, memoryAfter, Undisturbed, Comes, stepsAfter, fetchedFrom, Meets, NoneShorter}
 use Rattle.assembly.specs.Calls.{functionBad}
 use Rattle.assembly.proofs.Reading.{prefix-cases}
 use Rattle.assembly.proofs.Functions.{not-pfix, not-nfix}
@@ -138,8 +139,8 @@ module _ (s : Core) (l : List ℕ) (c : length l ≡ registers) where
 
 module _ (w : Work) (c : length (w .regs) ≡ registers) (f : Core → Core) where
   core-count : length (onCore f w .regs) ≡ registers
-  unfolding putCore withCore
-  core-count = simp length-set c
+  unfolding putCore
+  core-count = length-withCore (f (coreOf (w .regs))) (w .regs) ∙ c
 
   core-oreg : getD (onCore f w .regs) oreg 0 ≡ f (coreOf (w .regs)) .oreg
   unfolding putCore
@@ -258,10 +259,8 @@ assembled-meets f v h g prefixes last e r m c =
     let k = chain-meets prefixes last r m p (λ z. not-pfix f g (sym i ∙ z)) (λ z. not-nfix f g (sym i ∙ z)) c in
     (i, k .0, subst (λ (x : ℕ). Meets last x (stepsAfter (length prefixes) r m .0) m) o (k .1))
 
--- and no shorter one does it: every list of prefixes and a final byte with that function, whose fetch leaves the operand, is as long or longer
-pub none-shorter : (f v : ℕ) → functionBad f ≡ false → (prefixes : List ℕ) (last : ℕ) → Prefixes prefixes → functionOf last ≡ f
-    → (r m : List ℕ) → Comes prefixes last r m → reg oreg (fetchedFrom last (stepsAfter (length prefixes) r m .0) m) ≡ v
-    → length (chain f v) ≤ length (prefixes ++ (last ∷ []))
+-- and no shorter one does it
+pub none-shorter : NoneShorter chain
 none-shorter f v g prefixes last p i r m c e =
     let k = chain-meets prefixes last r m p (λ z. not-pfix f g (sym i ∙ z)) (λ z. not-nfix f g (sym i ∙ z)) c in
     shortest f v prefixes last p (sym (k .1 .meets) ∙ e)

@@ -1,5 +1,5 @@
 -- What the machine makes of prefix bytes, in arithmetic: an Oreg that ends in four clear bits, and the nibble that is ORed into them.
-use mathlib.Core.Path.{_≡_, refl, sym, ap, _∙_}
+use mathlib.Core.Path.{_≡_, refl, ap, _∙_}
 use mathlib.Core.Logic.{_⊎_, inl, inr, ⊎-elim}
 use mathlib.Core.Bool.{Bool, true, false, _||_}
 use lib.Dec.{eqb}
@@ -7,7 +7,7 @@ use borrow.Author.Tests.{eqb-true, eq-eqb, ne-eqb}
 use mathlib.Core.List.{List, [], _∷_, _++_}
 use Prim.Native.Nat.{ℕ, _+_, _-_, _*_, _/_, _%_, _^_, _<_}
 use native.Mathlib.Omega.{arith}
-use lib.Bits.{bitAnd, bitOr, and-mask, or-shifted}
+use lib.Bits.{bitOr, and-mask, or-shifted}
 use Rattle.rules.specs.Words.{range, withNibble, prefixed, negativePrefixed}
 use Rattle.rules.proofs.Tests.{yes-eq, no-eq}
 use Rattle.assembly.specs.Chain.{pfix, nfix, functionOf, isPrefix, afterPrefix, afterPrefixes}

@@ -1,5 +1,5 @@
 -- THE SHORTEST CHAIN: no list of fewer bytes, all prefixes but the last, leaves the same operand from Oreg 0. And eight bytes are always enough.
-use mathlib.Core.Path.{_≡_, refl, sym, ap, _∙_, subst}
+use mathlib.Core.Path.{_≡_, refl, subst}
 use mathlib.Core.Logic.{_⊎_, inl, inr, ⊎-elim}
 use mathlib.Core.List.{List, [], _∷_, _++_}
 use Prim.Native.Nat.{ℕ, zero, suc, _+_, _-_, _*_, _/_, _%_, _^_, _<_, _≤_}
@@ -7,11 +7,10 @@ use native.Mathlib.Omega.{arith}
 use lib.Dec.{leb}
 use lib.ListN.{length, length-append}
 use borrow.Author.Tests.{leb-true}
-use Rattle.rules.specs.Tests.{ifLt}
-use Rattle.rules.specs.Words.{range, withNibble}
+use Rattle.rules.specs.Words.{range}
 use Rattle.rules.proofs.Tests.{yes-lt, no-lt, cases-lt}
 use Rattle.laws.proofs.LawfulOperations.{allBelow, all-below}
-use Rattle.assembly.specs.Chain.{pfix, nfix, instruction, prefixOf, upperOf, chainOf, chain, functionOf, afterPrefix, afterPrefixes, operandOf}
+use Rattle.assembly.specs.Chain.{pfix, nfix, chainOf, chain, functionOf, afterPrefix, afterPrefixes, operandOf}
 use Rattle.assembly.specs.Meeting.{Prefixes}
 use Rattle.assembly.proofs.Reading.{prefix-cases, with-nibble, after-pfix, after-nfix}
 use Rattle.assembly.proofs.Exact.{before, final, chain-parts, up-prefix, up-upper, down-prefix, down-upper, reach}

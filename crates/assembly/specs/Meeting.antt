@@ -13,6 +13,7 @@ use Rattle.rules.specs.Timers.{timerReady}
 use Rattle.rules.specs.Channels.{requested}
 use Rattle.rules.specs.Step.{step, fetched, execute, haltOnError}
 use Rattle.assembly.specs.Chain.{functionOf, isPrefix}
+use Rattle.assembly.specs.Calls.{functionBad}
 
 -- every byte of a list is a prefix (000 1.11, Prefixing Functions)
 abbrev pub Prefixes : List ℕ → Type 0
@@ -65,3 +66,11 @@ pub record Meets (final operand : ℕ) (r m : List ℕ) : Type 0 where
   pub meets : reg oreg (fetchedFrom final r m) ≡ operand
   pub executes : bitAnd (getD r flagsReg 0) haltedFlag ≡ 0 → bitAnd (getD r flagsReg 0) idleFlag ≡ 0
       → step m (begin r) ≡ haltOnError (getD r statusReg 0) (execute m (functionOf final) (fetchedFrom final r m))
+
+-- what a writer writes for a function and an operand is the shortest: every list of prefixes and a final byte with that function, whose fetch
+-- leaves the operand in some machine, is as long or longer (02, No. 2; DECISIONS 62)
+abbrev pub NoneShorter : (ℕ → ℕ → List ℕ) → Type 0
+NoneShorter writer =
+    (f v : ℕ) → functionBad f ≡ false → (prefixes : List ℕ) (last : ℕ) → Prefixes prefixes → functionOf last ≡ f
+    → (r m : List ℕ) → Comes prefixes last r m → reg oreg (fetchedFrom last (stepsAfter (length prefixes) r m .0) m) ≡ v
+    → length (writer f v) ≤ length (prefixes ++ (last ∷ []))

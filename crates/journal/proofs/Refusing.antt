@@ -12,14 +12,8 @@ use Rattle.rules.specs.Work.{outside}
 use Rattle.rules.specs.Journal.{boundsBad}
 use Rattle.rules.specs.Calls.{Outcome, refused, memorySizeBad, journalSizeBad, sizeBad, checked, notInput}
 use Rattle.rules.specs.declared.Machine.{Machine}
+use Rattle.laws.proofs.Calm.{neither}
 use Rattle.journal.specs.Checks.{firstBad}
-
-no-way : {P : Type 0} → _≡_ {A = Bool} true false → P
-no-way e = let z : _≡_ {A = ℕ} 0 1 = cc in absurd (omega arith)
-
-neither : (a b : Bool) → a || b ≡ false → (a ≡ false) × (b ≡ false)
-neither true b e = no-way e
-neither false b e = (refl, e)
 
 -- ---- sizes
 

@@ -2,7 +2,7 @@
 -- whether the work there Stops.
 use mathlib.Core.Path.{_≡_, refl, sym, subst, _∙_}
 use mathlib.Core.Logic.{_↔_}
-use mathlib.Core.Bool.{Bool, true, false, _&&_, not}
+use mathlib.Core.Bool.{Bool, true, false, _&&_, _||_, not}
 use mathlib.Core.List.{List, [], _∷_}
 use Prim.Native.Nat.{ℕ, _≤_, _<_}
 use native.Mathlib.Omega.{arith}
@@ -20,6 +20,10 @@ use Rattle.laws.proofs.Fine.{Fine, Turns, AnswerIs, never-turns, unnote
 
 pub never : {A : Type 0} → _≡_ {A = Bool} false true → A
 never e = absurd (let z : _≡_ {A = ℕ} 0 1 = cc in omega arith)
+
+pub neither : (a b : Bool) → (a || b) ≡ false → (a ≡ false) × (b ≡ false)
+neither true b e = never (sym e)
+neither false b e = (refl, e)
 
 pub and-false : (a : Bool) → (a && false) ≡ false
 and-false true = refl

@@ -49,7 +49,7 @@ accessing-turns P t k a z kind address low high = t k a z kind address (proper-a
 pub fine-begin : (r : List ℕ) → length r ≡ registers → Fine Known (begin r)
 fine-begin r h = record { ordinary = (h, refl); known = record { most = omega arith; proper = proper-refuse 0 (λ e. omega (arith, e)) }; ten = accessing-turns Known (turns-known outside (omega arith)) }
 
-length-withCore : (s : Core) (r : List ℕ) → length (withCore s r) ≡ length r
+pub length-withCore : (s : Core) (r : List ℕ) → length (withCore s r) ≡ length r
 unfolding withCore
 length-withCore s r = simp length-set
 

@@ -82,11 +82,12 @@ pub(crate) fn next_line(text: &[u8], from: usize) -> usize
     k + 1
 }
 
+// Tests for a character that separates words.
 fn is_blank(byte: u8) -> bool {
     byte == b' ' || byte == b'\t' || byte == b'\r'
 }
 
-// Returns the first place from k on that is not blank, or stop.
+// Returns the first place from `from` on that is not blank, or stop.
 fn skip_blanks(text: &[u8], from: usize, stop: usize) -> usize
     requires { ⌜ (from ≤ stop) × (stop ≤ length (now text)) ⌝ }
     ensures { λ r. ⌜ (from ≤ r) × (r ≤ stop) ⌝ }
@@ -144,7 +145,7 @@ fn digit(byte: u8) -> u64
     255
 }
 
-// The largest number of digits, plus 1, and what stands for no number.
+// 2^32, above every operand: stands for no number.
 const BAD: u64 = 0x1_0000_0000;
 
 // Multiplies a number by its base.
@@ -179,6 +180,7 @@ fn digits(text: &[u8], from: usize, to: usize, base: u64) -> u64
     value
 }
 
+// Makes what stands for no operand.
 fn no_operand() -> Operand {
     Operand {
         good: false,
@@ -224,8 +226,8 @@ fn number(text: &[u8], from: usize, to: usize) -> Operand
     }
 }
 
-// Assembles an instruction. A TooLong is tried once more, as the bench scripts of document 02 do; no operand is met that way, and No. 10 takes
-// the branch away.
+// Assembles an instruction. A TooLong is tried once more, as the bench scripts of document 02 do; no operand gets there, and No. 10 takes the
+// branch away.
 fn assemble_again(function: u32, operand: u32, out: &mut [u8]) -> Written
     ensures { λ r. ⌜ r .size ≤ length (now (out .entry)) ⌝ }
 {
@@ -260,6 +262,7 @@ fn put_chain(function: u32, operand: u32, out: &mut [u8], size: usize) -> Done
     }
 }
 
+// Ends a line that wrote no code.
 fn bad(reason: u32, size: usize) -> Done
     ensures { λ r. ⌜ r .size ≡ size ⌝ }
 {

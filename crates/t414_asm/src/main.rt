@@ -60,13 +60,13 @@ fn complain(number: u64, reason: u32) {
     io::write_all(2, b"asm: line ");
     io::print_decimal(2, number);
     match reason {
-        line::UNKNOWN => io::write_all(2, b": the name is no function or operation\n"),
+        line::UNKNOWN => io::write_all(2, b": no operation, and no function with an operand, has this name (names are in lower case; prefixes are written as needed)\n"),
         line::MISSING => io::write_all(2, b": the operand is missing\n"),
         line::NUMBER => io::write_all(
             2,
-            b": the operand is no number from -2147483648 to 2147483647, and no # with 1 to 8 digits\n",
+            b": the operand is no number from -2147483648 to 2147483647, and no # with 1 to 8 hexadecimal digits\n",
         ),
-        line::MORE => io::write_all(2, b": something stands behind the instruction\n"),
+        line::MORE => io::write_all(2, b": there is more on the line than one instruction\n"),
         line::LONG => io::write_all(2, b": the operand needs more than eight bytes\n"),
         _ => io::write_all(2, b": the code is longer than 1 MiB\n"),
     }
@@ -100,7 +100,7 @@ fn main() {
     let mut text = input();
     let got = io::read_full(0, &mut text);
     if got > MOST {
-        io::write_all(2, b"asm: more than 1 MiB of text\n");
+        io::write_all(2, b"asm: the text is longer than 1 MiB\n");
         return;
     }
     let mut out = output();

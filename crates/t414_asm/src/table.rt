@@ -48,6 +48,7 @@ fn store(s: &mut [u8], k: usize, byte: u8) {
     }
 }
 
+// Widens a byte.
 fn wide(x: u8) -> usize
     ensures { λ r. ⌜ (r ≡ x) × (r < 256) ⌝ }
 {

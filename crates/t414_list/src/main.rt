@@ -1,6 +1,7 @@
 // Lists T414 code from standard input (02, No. 2), at most 1 MiB of it. With an argument, each line has its address and its bytes before it.
 // The text is gathered in a buffer and written where that is full.
 use assembly::Verdict;
+use rules::names::MEM_START;
 ghost use mathlib.Core.Path.{_≡_};
 ghost use Prim.Native.Nat.{_+_, _≤_, _<_};
 ghost use lib.ListN.{length};
@@ -18,9 +19,6 @@ const TEXT: usize = 1048576;
 // The bytes of code that are listed by one call, but for the rest of a chain.
 const PIECE: usize = 65536;
 
-// The address of the first byte: MemStart.
-const MEM_START: u32 = 0x8000_0048;
-
 // Each buffer's contract gives the length alone, so that no proof of a caller computes with so many zeros.
 fn input() -> [u8; INPUT]
     ensures { λ r. ⌜ 1048577 ≡ length r ⌝ }
@@ -34,6 +32,7 @@ fn output() -> [u8; TEXT]
     [0; TEXT]
 }
 
+// Tests for pfix and nfix.
 fn is_prefix(byte: u8) -> bool {
     let function = byte / 16;
     function == 2 || function == 6
@@ -160,6 +159,7 @@ fn blanks_after(n: usize) -> usize {
     1
 }
 
+// Widens a byte.
 fn wide(x: u8) -> u32
     ensures { λ r. ⌜ (r ≡ x) × (r < 256) ⌝ }
 {
@@ -274,7 +274,7 @@ fn main() {
     let mut code = input();
     let got = io::read_full(0, &mut code);
     if got > MOST {
-        io::write_all(2, b"list: more than 1 MiB of code\n");
+        io::write_all(2, b"list: the code is longer than 1 MiB\n");
         return;
     }
     let mut text = output();

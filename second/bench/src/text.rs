@@ -1,13 +1,10 @@
 //! The assembler and the listing: how much they write in a second.
 
-use comparer::assembly::{program, Reference};
+use comparer::assembly::{program, Reference, MOST};
 use comparer::process::Program;
 use comparer::random::Random;
 
 use crate::measure::seconds_of_input;
-
-/// The most that either program reads.
-const MOST: usize = 1 << 20;
 
 pub const HEADING: &str = "\
 | Program | Reads | Writes | Seconds | Written, MB a second |

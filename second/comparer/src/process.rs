@@ -57,6 +57,11 @@ impl Program {
         Ok(Program { path, rattle })
     }
 
+    /// Whether the program says by its status that it failed; those that Rattle builds cannot.
+    pub fn has_status(&self) -> bool {
+        !self.rattle
+    }
+
     /// How the program is started.
     pub fn command(&self) -> Result<Command, String> {
         if self.rattle {

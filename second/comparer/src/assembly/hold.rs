@@ -10,7 +10,9 @@ use crate::random::Random;
 
 /// Bytes of text or code of one run.
 const TEXT: usize = 1_000_000;
-const CODE: usize = 30_000;
+const CODE: usize = 300_000;
+/// Prefixes without an end: so many that a lister cannot keep their text in a small buffer.
+const TAIL: usize = 200_000;
 /// Every operand up to this one is assembled, and down to its negative.
 const NEAR: u64 = 70_000;
 /// Differences that are told in words.
@@ -111,6 +113,8 @@ pub fn hold_lister(
     let mut random = Random::new(seed);
     let mut findings = Findings::default();
     findings.add(1, listing_differs(tool, &[], addresses)?);
+    let tail = [vec![0x41], vec![0x2F; TAIL]].concat();
+    findings.add(1, listing_differs(tool, &tail, addresses)?);
     let mut code = Vec::new();
     let mut strings = 0;
     for number in 0..count {

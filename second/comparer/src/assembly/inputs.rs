@@ -57,12 +57,14 @@ pub fn any_line(random: &mut Random) -> Line {
         0 | 1 => format!("#{operand:X}"),
         2 => format!("#{operand:08x}"),
         3 if operand >= 0 => format!("0{operand}"),
+        3 => format!("-00{}", operand.unsigned_abs()),
         _ => operand.to_string(),
     };
     let text = match random.below(16) {
         0 => format!("  {name}   {written}  "),
         1 => format!("{name}\t{written} -- as it is"),
         2 => format!("-- {name} 1\n\n{name} {written}--{name} 2"),
+        3 => format!("{name} {written}\r"),
         _ => format!("{name} {written}"),
     };
     let code = plain(name, operand).code;
@@ -75,7 +77,7 @@ fn any_operand(random: &mut Random) -> i32 {
 }
 
 /// What is no line of an assembler.
-const BAD: [&str; 40] = [
+const BAD: [&str; 43] = [
     "pfix 1",
     "nfix 0",
     "pfix",
@@ -116,6 +118,9 @@ const BAD: [&str; 40] = [
     "ldc five",
     "ldc: 5",
     "- - ldc 5",
+    "ldc 5\0",
+    "ldc \u{665}",
+    "ld\rc 5",
 ];
 
 /// A text with a bad line or a few, and the number of the first.

@@ -14,6 +14,9 @@ pub use inputs::program;
 pub use slips::Slip;
 pub use tool::{Assembled, Tool};
 
+/// The most that the assembler and the lister read: 1 MiB.
+pub const MOST: usize = 1 << 20;
+
 /// Assembles and lists by the documents, or with one slip for the comparer's own test.
 #[derive(Clone, Copy, Debug)]
 pub struct Reference {

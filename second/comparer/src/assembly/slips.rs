@@ -40,6 +40,7 @@ slips! {
     NineDigits,
     /// Words behind the operand are skipped.
     RestOfLineSkipped,
+    CarriageReturnIsNoBlank,
     // The listing.
     UnsignedOperand,
     /// An operation that is not built is listed as its code alone.

@@ -14,7 +14,7 @@ impl Reference {
         for line in text.split(|&byte| byte == b'\n') {
             let code = without_comment(line);
             let words: Vec<&[u8]> = code
-                .split(is_blank)
+                .split(|&byte| self.is_blank(byte))
                 .filter(|word| !word.is_empty())
                 .collect();
             if self.read_line(&mut bytes, &words).is_none() {
@@ -26,6 +26,10 @@ impl Reference {
             number += usize::from(!(self.slips(Slip::OnlyCodeLinesCounted) && words.is_empty()));
         }
         bad.map_or(Ok(bytes), Err)
+    }
+
+    fn is_blank(self, byte: u8) -> bool {
+        byte == b' ' || byte == b'\t' || byte == b'\r' && !self.slips(Slip::CarriageReturnIsNoBlank)
     }
 
     /// Appends the code of a line; none for a bad line.
@@ -79,8 +83,4 @@ impl Reference {
 fn without_comment(line: &[u8]) -> &[u8] {
     let starts = line.windows(2).position(|pair| pair == b"--");
     &line[..starts.unwrap_or(line.len())]
-}
-
-fn is_blank(byte: &u8) -> bool {
-    [b' ', b'\t', b'\r'].contains(byte)
 }

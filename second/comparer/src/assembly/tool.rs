@@ -39,6 +39,9 @@ impl Tool {
         if outcome.complaint.is_empty() && !outcome.status.success() {
             return Err(format!("the assembler ended with {}", outcome.status));
         }
+        if !outcome.complaint.is_empty() && outcome.status.success() && program.has_status() {
+            return Err("the assembler complains and ends with 0".into());
+        }
         let bad = first_number(&outcome.complaint);
         if bad.is_none() && !outcome.complaint.is_empty() {
             let complaint = outcome.complaint.trim();

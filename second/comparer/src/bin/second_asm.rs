@@ -4,11 +4,15 @@
 use std::io::{self, Read, Write};
 use std::process::ExitCode;
 
-use comparer::assembly::Reference;
+use comparer::assembly::{Reference, MOST};
 
 fn main() -> io::Result<ExitCode> {
     let mut text = Vec::new();
     io::stdin().lock().read_to_end(&mut text)?;
+    if text.len() > MOST {
+        eprintln!("the text is longer than {MOST} bytes");
+        return Ok(ExitCode::FAILURE);
+    }
     match Reference::RIGHT.read_text(&text) {
         Ok(code) => {
             io::stdout().lock().write_all(&code)?;

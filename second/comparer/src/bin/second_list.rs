@@ -5,7 +5,7 @@
 use std::io::{self, Read, Write};
 use std::process::ExitCode;
 
-use comparer::assembly::Reference;
+use comparer::assembly::{Reference, MOST};
 
 fn main() -> io::Result<ExitCode> {
     let arguments: Vec<String> = std::env::args().skip(1).collect();
@@ -20,6 +20,10 @@ fn main() -> io::Result<ExitCode> {
     };
     let mut code = Vec::new();
     io::stdin().lock().read_to_end(&mut code)?;
+    if code.len() > MOST {
+        eprintln!("the code is longer than {MOST} bytes");
+        return Ok(ExitCode::FAILURE);
+    }
     let reference = Reference::RIGHT;
     let text = if addresses {
         reference.list_addresses(&code)

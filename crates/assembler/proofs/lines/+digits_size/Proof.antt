@@ -1,7 +1,7 @@
 -- It calls itself on all digits but the last: the measure is the number.
 use borrow.Author.Needs.{needs}
 use native.Mathlib.Omega.{arith}
-use mathlib.Core.Path.{refl, sym, subst}
+use mathlib.Core.Path.{refl, subst}
 use Prim.Native.Nat.{ℕ, _/_, _<_}
 use Rattle.assembler.proofs.Digits.{digits-one, digits-few, more-length}
 use borrow.Fn.Kinds.{In}

@@ -1,7 +1,6 @@
-use borrow.Author.Needs.{needs}
 use native.Mathlib.Omega.{arith}
 use mathlib.Core.Path.{_∙_}
-use lib.ListN.{length, length-set}
+use lib.ListN.{length-set}
 use Rattle.assembly.specs.Listing.{space, newline}
 use Rattle.assembler.proofs.Text.{function-length, function-stored}
 use Rattle.assembler.proofs.lines.put_function.Statement.{statement}

@@ -1,7 +1,7 @@
 use borrow.Author.Needs.{needs}
 use native.Mathlib.Omega.{arith}
 use mathlib.Core.Path.{_∙_}
-use lib.ListN.{length, length-set}
+use lib.ListN.{length-set}
 use Rattle.assembly.specs.Listing.{minusSign}
 use Rattle.assembler.proofs.Text.{up-decimal, up-length, down-length, down-positive, operand-down}
 use Rattle.assembler.proofs.lines.put_operand.Statement.{statement}

@@ -1,6 +1,3 @@
-use borrow.Author.Needs.{needs}
-use mathlib.Core.Path.{sym}
-use lib.ListN.{drop}
 use Rattle.assembler.proofs.Text.{separator-more, separator-last}
 use Rattle.assembler.proofs.lines.separator.Statement.{statement}
 use Rattle.assembler.proofs.lines.separator.Tie as tie

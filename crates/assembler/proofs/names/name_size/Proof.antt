@@ -4,7 +4,7 @@ use mathlib.Core.Path.{_≡_, ap, _∙_}
 use mathlib.Core.List.{List}
 use Prim.Native.Nat.{ℕ, _*_}
 use lib.ListN.{length, getD}
-use Rattle.assembler.specs.Table.{nameAt, rowsUpTo}
+use Rattle.assembler.specs.Table.{nameAt}
 use Rattle.assembler.proofs.Rows.{name-length, names-short, rows-length}
 use Rattle.assembler.proofs.names.name_size.Statement.{statement}
 use Rattle.assembler.proofs.names.name_size.Tie as tie

@@ -1,4 +1,3 @@
-use borrow.Author.Needs.{needs}
 use borrow.Author.Tests.{eq-eqb, ne-eqb}
 use Rattle.assembly.specs.Chain.{isPrefix}
 use Rattle.assembler.proofs.passes.is_prefix.Statement.{statement}
