@@ -40,7 +40,7 @@ module _ {A : ℕ → Type 0} where
 
   pub lawful-tickSlice : Law A (λ mem. tickSlice)
   unfolding tickSlice
-  lawful-tickSlice = law (λ w. lawful-lt _ _ (lawful-put _ _ .at w) unchanged)
+  lawful-tickSlice = law (λ w. lawful-lt _ _ (lawful-eq _ _ unchanged (lawful-eq _ _ (lawful-put _ _ .at w) unchanged)) unchanged)
 
   pub lawful-tickPrescaler : Law A (λ mem. tickPrescaler)
   unfolding tickPrescaler

@@ -6,14 +6,14 @@ use mathlib.Core.Bool.{Bool, _&&_}
 use mathlib.Core.List.{List, [], _∷_}
 use lib.Dec.{eqb}
 use Rattle.rules.specs.Core.{errorFlag, gotoSNPBit}
-use Rattle.rules.specs.Stack.{nfix, testerr, shl, add}
-use Rattle.rules.specs.Registers.{registers, iptrReg, wdescReg, areg, breg, creg, oreg, statusReg, fptrReg, bptrReg, flagsReg, idleFlag, channelReg, activeBit, enabledBit, heldBit, runRequest, readyRequest}
+use Rattle.rules.specs.Stack.{nfix, testerr, shl, add, clocksRun}
+use Rattle.rules.specs.Registers.{registers, iptrReg, wdescReg, areg, breg, creg, oreg, statusReg, fptrReg, bptrReg, sliceReg, flagsReg, idleFlag, haltedFlag, channelReg, activeBit, enabledBit, heldBit, runRequest, readyRequest}
 use Rattle.rules.specs.Memory.{word, bytes, stores}
 use Rattle.rules.specs.Work.{Work, begin, notReady, storeByte}
 use Rattle.rules.specs.Scheduling.{notProcess, noLowProcess, timeNotSet, memStart, dequeue, resumeOrStart, actOnSNP, endp}
 use Rattle.rules.specs.Data.{moveDone}
 use Rattle.rules.specs.Timers.{insertFirstStep, deleteFirstStep}
-use Rattle.rules.specs.Links.{transferEnds, give}
+use Rattle.rules.specs.Links.{transferEnds, give, tick}
 use Rattle.rules.specs.Channels.{requested}
 use Rattle.rules.specs.Operations.{Action, pure, pureOrStop}
 use Rattle.rules.specs.Step.{choose}
@@ -92,6 +92,11 @@ edges =
     ((channelReg 4, 0x5500 + heldBit + readyRequest) ∷ []) []
     -- a transfer that ends sets the run request. With bit 4, the ready request would be set (01, Links, clocks, slice)
     ∷ gives (λ m. transferEnds 0) ((channelReg 0, activeBit) ∷ []) [] 0 ((channelReg 0, runRequest) ∷ []) []
+    -- the slice counts on a halted machine, not at high priority and not while idle. By 01's sentence, it would be 1,024 in the second and third
+    -- row; without the ticks of a halted machine, 1,023 in the first (02, No. 3; DECISIONS 64)
+    ∷ gives (λ m. tick) ((flagsReg, clocksRun + haltedFlag) ∷ (sliceReg, 1023) ∷ []) [] 0 ((sliceReg, 1024) ∷ []) []
+    ∷ gives (λ m. tick) ((wdescReg, mine) ∷ (flagsReg, clocksRun) ∷ (sliceReg, 1023) ∷ []) [] 0 ((sliceReg, 1023) ∷ []) []
+    ∷ gives (λ m. tick) ((flagsReg, clocksRun + idleFlag) ∷ (sliceReg, 1023) ∷ []) [] 0 ((sliceReg, 1023) ∷ []) []
     -- a ready request alone is a request. With the run request alone, none would be found: 9 (01, One step (a))
     ∷ eqb (requested (before ((channelReg 4, readyRequest) ∷ []))) 4
     -- requests are served where Oreg is 0. With 1, the first row would execute ldc, and the second serve the request (01, One step)

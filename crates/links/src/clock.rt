@@ -6,14 +6,18 @@ ghost use mathlib.Core.Path.{_≡_};
 ghost use Rattle.rules.specs.Work.{begin};
 ghost use Rattle.rules.specs.Links as links;
 
-// Adds 1 to a slice below 1,024.
+// Adds 1 to a slice below 1,024 where a low process is current and the machine is not idle.
 fn tick_slice(regs: [u32; REGISTERS]) -> [u32; REGISTERS]
     ensures { λ r. ⌜ begin r ≡ links.tickSlice (begin regs) ⌝ }
 {
     let mut t = regs;
     if regs[SLICE_REG] < SLICE_LENGTH {
-        t[SLICE_REG] = regs[SLICE_REG] + 1;
-        return t;
+        if regs[WDESC_REG] & 1 != 0 {
+            if regs[FLAGS_REG] & IDLE_FLAG == 0 {
+                t[SLICE_REG] = regs[SLICE_REG] + 1;
+                return t;
+            }
+        }
     }
     t
 }

@@ -90,7 +90,8 @@ Free w = told w ≡ (0, 0, 0)
 
 tick-free : (r : List ℕ) → Free (links.tick (begin r))
 unfolding links.tick links.tickClocks links.tickPrescaler links.tickSlice put
-tick-free r = on-eq Free _ _ refl (on-lt Free _ _ (on-le Free _ _ refl refl) (on-le Free _ _ refl refl))
+tick-free r =
+    on-eq Free _ _ refl (on-lt Free _ _ (on-eq Free _ _ (on-le Free _ _ refl refl) (on-eq Free _ _ (on-le Free _ _ refl refl) (on-le Free _ _ refl refl))) (on-le Free _ _ refl refl))
 
 module _ (m : Machine) (mem j : List ℕ) where
   pub tick-exactly : refusalOf (rules.tick m mem j) ≡ firstOf (tickRefusals m mem j)

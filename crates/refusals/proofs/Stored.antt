@@ -26,7 +26,8 @@ no-pairs size ss e = rw (e, touched-none size)
 
 pub tick-stored : (r : List ℕ) → None (links.tick (begin r))
 unfolding links.tick links.tickClocks links.tickPrescaler links.tickSlice put
-tick-stored r = on-eq None _ _ refl (on-lt None _ _ (on-le None _ _ refl refl) (on-le None _ _ refl refl))
+tick-stored r =
+    on-eq None _ _ refl (on-lt None _ _ (on-eq None _ _ (on-le None _ _ refl refl) (on-eq None _ _ (on-le None _ _ refl refl) (on-le None _ _ refl refl))) (on-le None _ _ refl refl))
 
 refuse-stored : (n : ℕ) (r : List ℕ) → None (refuse n (begin r))
 unfolding refuseAt

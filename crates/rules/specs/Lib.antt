@@ -15,3 +15,4 @@ pub mod Step
 pub mod Journal
 pub mod Calls
 pub mod Starred
+pub mod Busy

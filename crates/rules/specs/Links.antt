@@ -5,8 +5,8 @@ use mathlib.Core.List.{List}
 use Rattle.rules.specs.Tests.{ifLt, ifLe, ifEq, ifSet}
 use Rattle.rules.specs.Words.{minus, wrapAdd, atByte, setBits, withHeldByte}
 use Rattle.rules.specs.Stack.{clocksRun}
-use Rattle.rules.specs.Registers.{clockReg, prescalerReg, sliceReg, flagsReg, pointerReg, countReg, channelReg, activeBit, enabledBit, heldBit, runRequest, readyRequest, eventChannel}
-use Rattle.rules.specs.Work.{Work, reg, put, raise, lower, notReady, refuse, readByte, storeByte}
+use Rattle.rules.specs.Registers.{clockReg, prescalerReg, sliceReg, flagsReg, idleFlag, pointerReg, countReg, channelReg, activeBit, enabledBit, heldBit, runRequest, readyRequest, eventChannel}
+use Rattle.rules.specs.Work.{Work, reg, priority, put, raise, lower, notReady, refuse, readByte, storeByte}
 use Rattle.rules.specs.Scheduling.{sliceLength}
 
 -- a link is moving when it is active and its count is not 0 (01, Links, clocks, slice)
@@ -56,9 +56,11 @@ event w =
 
 -- ---- tick
 
--- slice, if below 1,024, grows by one, else it stays (01, Links, clocks, slice)
+-- slice, if below 1,024, grows by one where a low process is current and the machine is not idle; else it stays (01, Links, clocks, slice; 02, No. 3)
 unfoldable pub tickSlice : Work → Work
-tickSlice w = ifLt (reg sliceReg w) sliceLength (put sliceReg (reg sliceReg w + 1) w) w
+tickSlice w =
+    ifLt (reg sliceReg w) sliceLength
+    (ifEq (priority w) 0 w (ifSet idleFlag (reg flagsReg w) w (put sliceReg (reg sliceReg w + 1) w))) w
 
 -- a prescaler of 63 or more becomes 0 and the low clock grows (01, Links, clocks, slice)
 unfoldable pub tickPrescaler : Work → Work

@@ -50,7 +50,9 @@ tick-bare : (r : List ℕ) → Bare (links.tick (begin r))
 unfolding links.tick links.tickClocks links.tickPrescaler links.tickSlice put
 tick-bare r =
     on-eq Bare _ _ (refl, refl)
-    (on-lt Bare _ _ (on-le Bare _ _ (refl, refl) (refl, refl)) (on-le Bare _ _ (refl, refl) (refl, refl)))
+    (on-lt Bare _ _
+    (on-eq Bare _ _ (on-le Bare _ _ (refl, refl) (refl, refl)) (on-eq Bare _ _ (on-le Bare _ _ (refl, refl) (refl, refl)) (on-le Bare _ _ (refl, refl) (refl, refl))))
+    (on-le Bare _ _ (refl, refl) (refl, refl)))
 
 pub tick-full :
     (m : Machine) (mem j : List ℕ)

@@ -21,4 +21,5 @@ pub mod respond;
 pub mod runs;
 pub mod sequence;
 pub mod side;
+pub mod situations;
 pub mod table;

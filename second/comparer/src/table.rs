@@ -6,6 +6,7 @@ use crate::case::{Call, Case, Response};
 use crate::instructions::{function_code, operation_place, FUNCTIONS, OPERATIONS};
 use crate::names::{answer_place, ANSWERS};
 use crate::outside::Outside;
+use crate::situations::{situation, Situations};
 
 /// What a case asks an emulator to do.
 #[derive(Clone, Copy, Debug, PartialEq, Eq)]
@@ -93,6 +94,22 @@ const PLACES: usize = ANSWERS.len() + 1;
 pub struct Table {
     rows: Vec<(String, [u64; PLACES])>,
     outside: Outside,
+    situations: Situations,
+}
+
+/// What is told from a case before its call.
+pub struct Before {
+    asked: Asked,
+    situation: Option<String>,
+}
+
+impl Before {
+    pub fn of(case: &Case) -> Before {
+        Before {
+            asked: asked(case),
+            situation: situation(case),
+        }
+    }
 }
 
 const REQUESTS: usize = 8;
@@ -113,12 +130,19 @@ impl Table {
         let instructions = FUNCTIONS.iter().chain(OPERATIONS.iter());
         names.extend(instructions.map(|instruction| instruction.name.into()));
         let rows = names.into_iter().map(|name| (name, [0; PLACES])).collect();
-        let outside = Outside::default();
-        Table { rows, outside }
+        Table {
+            rows,
+            outside: Outside::default(),
+            situations: Situations::default(),
+        }
     }
 
-    pub fn count(&mut self, asked: Asked, response: &Response) {
+    pub fn count(&mut self, before: Before, response: &Response) {
+        let Before { asked, situation } = before;
         self.outside.count(asked, response);
+        if let (0, Some(situation)) = (response.answer, situation) {
+            self.situations.count(situation);
+        }
         let answer = answer_place(response.answer).unwrap_or(PLACES - 1);
         if !matches!(asked, Asked::Call(_)) {
             self.rows[Call::Step as usize].1[answer] += 1;
@@ -147,14 +171,19 @@ impl Table {
                 );
             }
         }
-        for (name, count) in self.outside.places() {
+        for (name, count) in self.named() {
             text += &format!("\n{name:<58}{count:>7}");
         }
         text
     }
 
+    /// Places outside memory and situations, and how often each was met.
+    fn named(&self) -> Vec<(String, u64)> {
+        [self.outside.places(), self.situations.all()].concat()
+    }
+
     /// What falls short: fewer than `least` accepted, a refusal that a call can meet and did not, or a
-    /// place outside memory met fewer than `least` times.
+    /// place outside memory or a situation met fewer than `least` times.
     pub fn shortfalls(&self, least: u64) -> Vec<String> {
         let mut short = Vec::new();
         for (row, (name, counts)) in self.rows.iter().enumerate() {
@@ -172,7 +201,7 @@ impl Table {
                 }
             }
         }
-        for (name, count) in self.outside.places() {
+        for (name, count) in self.named() {
             if count < least {
                 short.push(format!("{name}: {count} times only"));
             }

@@ -1,4 +1,4 @@
-//! The second emulator of the T414: the eight calls of document 01, with document 02's No. 1.
+//! The second emulator of the T414: the eight calls of document 01, with document 02's No. 1 and No. 3.
 //!
 //! It is written from document 000 (the T414B description in occam), documents 01 and 02 (the
 //! rulings and requests) and docs/DECISIONS.md alone, so that it can disagree with the proved one. Procedures stand under

@@ -6,6 +6,7 @@ use crate::answers::Refusal;
 use crate::memory::Work;
 use crate::mistakes::{Care, Mistake};
 use crate::registers::*;
+use crate::scheduling::SLICE_PERIOD;
 use crate::words::byte_of;
 
 /// BadChannel for a link outside the call's own.
@@ -134,9 +135,18 @@ impl<K: Care> Work<'_, K> {
         } else {
             self.regs[PRESCALER] = self.regs[PRESCALER].wrapping_add(1);
         }
-        if self.regs[SLICE] < 1024 || self.wrong(Mistake::SliceGrowsOn) {
+        if self.slice_grows() {
             self.regs[SLICE] = self.regs[SLICE].wrapping_add(1);
         }
+    }
+
+    /// Document 02, No. 3: on the ticks of a low process, while the machine is not idle (DECISIONS 64).
+    fn slice_grows(&self) -> bool {
+        let below = self.regs[SLICE] < SLICE_PERIOD || self.wrong(Mistake::SliceGrowsOn);
+        let low = self.priority() == 1 || self.wrong(Mistake::SliceGrowsAtHighPriority);
+        let busy = self.regs[FLAGS] & IDLE == 0 || self.wrong(Mistake::SliceGrowsWhileIdle);
+        let stopped = self.wrong(Mistake::SliceStopsWhenHalted) && self.regs[FLAGS] & HALTED != 0;
+        below && low && busy && !stopped
     }
 
     fn prescaler_full(&self) -> bool {

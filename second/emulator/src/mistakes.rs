@@ -154,6 +154,10 @@ mistakes! {
     PrescalerKept,
     PrescalerOnlyAt63,
     SliceGrowsOn,
+    /// The slice grows while a high process has interrupted a low one, as before document 02.
+    SliceGrowsAtHighPriority,
+    SliceGrowsWhileIdle,
+    SliceStopsWhenHalted,
     AltwtKeepsA,
     EnbcSwallowsReady,
     DiscLeavesRequest,

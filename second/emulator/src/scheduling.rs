@@ -7,7 +7,7 @@ use crate::registers::*;
 use crate::words::at_byte;
 
 /// A low process is sliced from this value of the slice register on.
-const SLICE_PERIOD: u32 = 1024;
+pub const SLICE_PERIOD: u32 = 1024;
 
 impl<K: Care> Work<'_, K> {
     /// The back pointer is set in both cases (DECISIONS 23).

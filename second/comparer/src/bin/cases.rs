@@ -10,7 +10,7 @@ use comparer::case::{Call, Case};
 use comparer::compare::Source;
 use comparer::protocol::put_case;
 use comparer::respond::respond;
-use comparer::table::{asked, Table};
+use comparer::table::{Before, Table};
 use emulator::Emulator;
 
 /// What must be accepted at least this often in 200,000 cases.
@@ -80,8 +80,8 @@ fn tally(source: Source, count: u64) -> Result<Table, String> {
     let mut emulator = Emulator::new();
     let mut table = Table::new();
     each(source, count, |case| {
-        let asked = asked(&case);
-        table.count(asked, &respond(&mut emulator, case));
+        let before = Before::of(&case);
+        table.count(before, &respond(&mut emulator, case));
     })?;
     Ok(table)
 }

@@ -20,11 +20,11 @@ pub struct Generator {
 /// How often each call is drawn, in a hundred.
 fn weight(call: Call) -> u32 {
     match call {
-        Call::Step => 72,
+        Call::Step => 71,
         Call::Undo | Call::Give => 6,
         Call::Take => 5,
         Call::Fresh | Call::Event => 4,
-        Call::Tick => 2,
+        Call::Tick => 3,
         Call::Clear => 1,
         Call::Repeat => 0,
     }
@@ -46,8 +46,10 @@ impl Generator {
         let size = memory_size(random);
         let mut scene = Scene::new(random, size);
         timers::queues(random, &mut scene);
-        if call == Call::Step {
-            steps::prepare(random, &mut scene);
+        match call {
+            Call::Step => steps::prepare(random, &mut scene),
+            Call::Tick => scene.before_tick(random),
+            _ => {}
         }
         let channel = channel(random, call);
         if [Call::Take, Call::Give].contains(&call) && random.percent(6) {

@@ -161,6 +161,17 @@ impl Scene {
         }
     }
 
+    /// Who is current and the slice, mostly each combination as often as any other.
+    pub fn before_tick(&mut self, random: &mut Random) {
+        if random.percent(10) {
+            return;
+        }
+        self.regs[SLICE] = random.pick(&[1023, 1024]);
+        self.regs[WDESC] = (self.regs[WDESC] & !1) | random.below(2);
+        let decide = CLOCKS_RUN | IDLE | HALTED;
+        self.regs[FLAGS] = (self.regs[FLAGS] & !decide) | (random.word() & decide);
+    }
+
     /// A link that moves with its pointer just outside memory.
     pub fn outside_transfer(&mut self, random: &mut Random, channel: u32) {
         let channel = channel as usize;

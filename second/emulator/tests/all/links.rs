@@ -283,3 +283,43 @@ fn ticks() {
     );
     assert_eq!((rig.get(PRESCALER), rig.get(SLICE)), (0, 1024));
 }
+
+/// Document 02, No. 3: the slice grows on the ticks of a low process alone; all else of a tick stays.
+#[test]
+fn decision_64_the_slice_counts_a_low_process_alone() {
+    for (low, flags, grows) in [
+        (1, CLOCKS_RUN, true),
+        (1, CLOCKS_RUN | HALTED, true),
+        (1, CLOCKS_RUN | IDLE, false),
+        (1, CLOCKS_RUN | IDLE | HALTED, false),
+        (0, CLOCKS_RUN, false),
+        (0, CLOCKS_RUN | HALTED, false),
+        (0, CLOCKS_RUN | IDLE, false),
+        (1, 0, false),
+        (1, HALTED, false),
+    ] {
+        for (before, most) in [
+            (0, 1),
+            (1022, 1023),
+            (1023, 1024),
+            (1024, 1024),
+            (9999, 9999),
+        ] {
+            let mut rig = Rig::quiet();
+            rig.set(WDESC, W | low).set(FLAGS, flags).set(SLICE, before);
+            assert_eq!(rig.tick(), 0);
+            let after = if grows { most } else { before };
+            assert_eq!(rig.get(SLICE), after, "{low} {flags} {before}");
+            let clock = flags & CLOCKS_RUN;
+            assert_eq!((rig.get(CLOCK[0]), rig.get(PRESCALER)), (clock, clock));
+        }
+    }
+}
+
+/// A workspace pointer that is no process still counts as a current one while idle is clear.
+#[test]
+fn decision_64_only_the_idle_flag_tells_that_nobody_runs() {
+    let mut rig = Rig::quiet();
+    rig.set(WDESC, NO_LOW_PROCESS).set(FLAGS, CLOCKS_RUN);
+    assert_eq!((rig.tick(), rig.get(SLICE)), (0, 1));
+}

@@ -284,3 +284,38 @@ fn calls_and_returns() {
     rig.set(A, 8).op(0x1B);
     assert_eq!(rig.get(A), word(30) + 9);
 }
+
+/// Document 02, No. 3: a card with busy links. A low process is interrupted twenty times, and 2,000
+/// ticks go by in the high process; the low one is not sliced at its next jump. Its own 1,024 ticks
+/// slice it.
+#[test]
+fn decision_64_link_work_does_not_use_up_the_slice() {
+    let (high, other) = (Q, P);
+    let mut rig = Rig::quiet();
+    rig.set(FLAGS, CLOCKS_RUN).put(high, IPTR_S, word(30));
+    rig.set(FPTR[1], other)
+        .set(BPTR[1], other)
+        .put(other, IPTR_S, word(40));
+    // ldlp 0, mint, ldnlp 4, ldc 1, in, j -8
+    rig.put_bytes(word(30), &[0x10, 0x24, 0xF2, 0x54, 0x41, 0xF7, 0x60, 0x08]);
+    rig.stack(high, 0, 0).op(0x39).steps(6);
+    assert_eq!((rig.get(WDESC), rig.get(SLICE)), (W | 1, 0));
+    for byte in 0..20 {
+        assert_eq!(rig.give(4, byte), 0);
+        rig.steps(1);
+        assert_eq!(rig.get(WDESC), high);
+        for _ in 0..100 {
+            assert_eq!((rig.clear(), rig.tick()), (0, 0));
+        }
+        rig.steps(8);
+        assert_eq!((rig.get(WDESC), rig.get(SLICE)), (W | 1, 0));
+    }
+    assert_eq!((rig.get(CLOCK[0]), rig.get(CLOCK[1])), (2_000, 31));
+    rig.run(&[0x00]);
+    assert_eq!((rig.get(WDESC), rig.get(FPTR[1])), (W | 1, other));
+    for _ in 0..1_024 {
+        assert_eq!((rig.clear(), rig.tick()), (0, 0));
+    }
+    rig.run(&[0x00]);
+    assert_eq!((rig.get(WDESC), rig.get(FPTR[1])), (other | 1, W));
+}
