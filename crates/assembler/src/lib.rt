@@ -1,5 +1,7 @@
 // The two public functions, and nothing else: assemble writes the shortest chain of a function and an operand, list the listing of code
 // (02, No. 2). Both write at the start of a lent output, and leave it as it is where they refuse.
+#![tactic(auto)]
+
 mod chains; // the prefix writer
 mod lines; // the lines of the listing
 mod names; // the table of names

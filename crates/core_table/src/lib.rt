@@ -1,5 +1,7 @@
 // The table of operations on registers alone (000 1.11; rules/specs/Operations.antt, register_operations): code and function on Core.
 // step_dispatch and step_fast share it.
+#![tactic(auto)]
+
 ghost use Rattle.std.specs.Prelude.{◌≡◌};
 ghost use Rattle.rules.specs.Core.{core};
 ghost use Rattle.core_table.specs.Selected as selected;

@@ -1,5 +1,7 @@
 // The block move on memory (01, One step): bytes in rising order, each read just before it is stored; a word at a time where the
 // result is the same. Mirrors `moved` of rules/specs/Memory.antt. Source and destination are bytes from the start of memory.
+#![tactic(auto)]
+
 ghost use Rattle.std.specs.Prelude.{◌≡◌, ◌+◌, ◌-◌, ◌*◌, ◌/◌, ◌%◌, ◌^◌, ◌<◌, ◌≤◌, length};
 ghost use Rattle.rules.specs.Memory.{moved};
 ghost use Rattle.journal_moves.specs.Four.{four_bytes};

@@ -1,6 +1,8 @@
 // Commits a call that makes no plan: a common step (step_fast), whose record has no pair, one or four, and a tick, which changes
 // registers alone. Writes the words that the commit of a plan (journal::commit) would write; mirrors `commit_or_refuse` of
 // rules/specs/Calls.antt.
+#![tactic(auto)]
+
 ghost use Rattle.std.specs.Prelude.{◌≡◌, false, not, [], ◌∷◌, ◌+◌, ◌-◌, ◌*◌, ◌^◌, ◌<◌, ◌≤◌, ltb, length, get_or};
 ghost use Rattle.std.proofs.lemmas.List.Edits.{sets};
 ghost use Rattle.rules.specs.Registers.{with_core};

@@ -1,4 +1,6 @@
 // The memory and registers of a fresh machine (01, Memory and registers). Mirrors the section on fresh of rules/specs/Calls.antt.
+#![tactic(auto)]
+
 ghost use Rattle.std.specs.Prelude.{◌≡◌, ◌<◌, ◌≤◌, length, get_or};
 ghost use Rattle.rules.specs.Calls as calls;
 

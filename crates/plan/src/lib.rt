@@ -2,6 +2,8 @@
 // only at the commit. A plan is two lent arrays: the registers, and a log of the stores and the refusal. A function takes what it touches: on
 // registers alone it holds for any log, on the log alone for any registers. Here are the registers and refusals of a plan
 // (rules/specs/Work.antt); accesses are in the crate memory.
+#![tactic(auto)]
+
 pub mod operands; // evaluation stack, Wptr and Iptr of a plan
 
 ghost use Rattle.std.specs.Prelude.{◌≡◌, List, ℕ, ◌<◌, length};

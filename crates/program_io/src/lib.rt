@@ -1,5 +1,7 @@
 // What the programs read and write: the line of t414_run (01, Numbers at the edges), the cases and responses of t414_batch
 // (docs/TESTING.md, The batch protocol). It makes no public call.
+#![tactic(auto)]
+
 pub mod answers; // numbers of the answers, steps of a run
 pub mod lines; // t414_run: the line it prints
 pub mod bytes; // words to bytes and back

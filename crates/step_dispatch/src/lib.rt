@@ -1,5 +1,7 @@
 // Dispatch: the function of a byte, the operation of Oreg (000 1.11; rules/specs/Operations.antt). Operations on registers alone are in
 // core_table. Here are those that can Stop, use queue pointers or clocks, access memory or schedule.
+#![tactic(auto)]
+
 ghost use Rattle.std.specs.Prelude.{◌≡◌};
 ghost use Rattle.rules.specs.Operations as operations;
 ghost use Rattle.plan.specs.View.{view, count_of, Room, Ended};

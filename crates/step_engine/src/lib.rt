@@ -1,5 +1,7 @@
 // One step (01, One step; rules/specs/Step.antt): planned over registers and memory, with the refusals 6, 7 and 9 to 11, then committed
 // or refused.
+#![tactic(auto)]
+
 ghost use Rattle.std.specs.Prelude.{◌≡◌, List, ℕ, ◌≤◌, length};
 ghost use Rattle.rules.specs.Work.{begin};
 ghost use Rattle.rules.specs.Step as step;

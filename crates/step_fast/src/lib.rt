@@ -1,5 +1,7 @@
 // Common steps (DECISIONS 54; specs/Fast.antt): nearly every step of a program works on the seven registers of Core and stores nothing, one
 // word, or the frame of a call. Declines every other step, and one that changes Status; step_engine makes those.
+#![tactic(auto)]
+
 pub mod functions; // the sixteen functions, after the fetch
 
 ghost use Rattle.std.specs.Prelude.{◌≡◌, ◌<◌};

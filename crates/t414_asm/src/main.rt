@@ -1,5 +1,7 @@
 // Assembles text from standard input (02, No. 2), at most 1 MiB of it, a line an instruction, and writes the code. Where a line is bad it tells
 // its number on standard error and writes no code.
+#![tactic(auto)]
+
 mod line; // one line: its words, its operand, its chain
 mod table; // the names, learnt from the listing
 

@@ -26,6 +26,8 @@
 // ends the program: one line on standard error, and no response for that case.
 //
 // Here are the calls and the loops; reading and writing are in program_io, which makes no public call.
+#![tactic(auto)]
+
 ghost use Rattle.std.specs.Prelude.{◌+◌, ◌*◌, ◌≤◌, ◌≡◌, length};
 ghost use Rattle.program_io.specs.Sizes.{case_head, most_words, most_journal, most_response};
 

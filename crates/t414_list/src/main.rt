@@ -1,5 +1,7 @@
 // Lists T414 code from standard input (02, No. 2), at most 1 MiB of it. With an argument, each line has its address and its bytes before it.
 // The text is gathered in a buffer and written where that is full.
+#![tactic(auto)]
+
 ghost use Rattle.std.specs.Prelude.{◌≡◌, ◌+◌, ◌<◌, ◌≤◌, length};
 
 use assembly::Verdict;

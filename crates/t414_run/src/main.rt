@@ -1,6 +1,8 @@
 // Runs T414 code from standard input for up to 100 steps and prints one line (01, Numbers at the edges): A, B, C, the accepted
 // steps, the journal words used, and the refusal that ended the run, or 0. An access outside memory is also told on standard error, with its
 // address (02, No. 1).
+#![tactic(auto)]
+
 ghost use Rattle.std.specs.Prelude.{◌≡◌, ◌≤◌, length};
 ghost use Rattle.t414_run.specs.Program as program;
 ghost use Rattle.t414_run.specs.Program.{result_of};

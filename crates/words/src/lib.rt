@@ -1,5 +1,7 @@
 // Words of 32 bits: addresses, bytes, bits, times, prefixes, process descriptors (000 1.1, 1.3, 1.5, 1.8).
 // Each function computes one definition of rules/specs/Words.antt or Core.antt.
+#![tactic(auto)]
+
 ghost use Rattle.std.specs.Prelude.{◌≡◌, ◌<◌};
 ghost use Rattle.rules.specs.Words as words;
 ghost use Rattle.rules.specs.Core as core;
