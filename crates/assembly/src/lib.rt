@@ -3,7 +3,7 @@
 
 
 // The answer of a call: Done, or a refusal, in the order in which they are met.
-#[derive(Drop)]
+#[derive(Clone, Copy)]
 pub enum Verdict {
     Done,
     BadFunction,
@@ -12,7 +12,7 @@ pub enum Verdict {
 }
 
 // The reply of a call: the answer, and how many bytes were written at the start of the output; 0 where it is refused.
-#[derive(Drop)]
+#[derive(Clone, Copy)]
 pub struct Written {
     pub verdict: Verdict,
     pub size: usize,

@@ -11,7 +11,7 @@ use core_ops::{errors, logic, stack};
 use rules::Core;
 
 // The registers after an operation; found tells whether the table has the code.
-#[derive(Drop)]
+#[derive(Clone, Copy)]
 pub struct Selected {
     pub found: bool,
     pub core: Core,

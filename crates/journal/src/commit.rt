@@ -12,7 +12,7 @@ use plan::{ADDRESS, ANSWER, KIND, LOG};
 use rules::names::*;
 
 // The result of a commit: number, part and address of the refusal, or 0; and the number of pairs.
-#[derive(Drop)]
+#[derive(Clone, Copy)]
 pub struct Committed {
     pub number: u32,
     pub part: u32,

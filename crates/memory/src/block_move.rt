@@ -9,7 +9,7 @@ use rules::names::*;
 use words::{at_byte, offset};
 
 // The first access of a move outside memory; kind 0 where all are inside.
-#[derive(Drop)]
+#[derive(Clone, Copy)]
 pub struct First {
     pub kind: u32,
     pub address: u32,

@@ -8,7 +8,7 @@ use rules::names::*;
 
 // An answer in numbers: its number, 0 where the call is accepted; the part of 10: 1 for 10a, 2 for 10b, 3 for 10c; the byte
 // address of the access that was outside memory. Part and address are 0 where there is none.
-#[derive(Drop)]
+#[derive(Clone, Copy)]
 pub struct Refusal {
     pub number: u32,
     pub part: u32,

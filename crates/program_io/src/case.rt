@@ -44,7 +44,7 @@ pub(crate) const UNWRITTEN: u32 = 7;
 
 // The head of a case of size bytes. Its bytes from..end are its code, and the T414's code begins at code. A case with a state other
 // than LOOK cannot be answered.
-#[derive(Drop)]
+#[derive(Clone, Copy)]
 pub struct Head {
     pub call: u32,
     pub channel: u32,
@@ -149,7 +149,7 @@ pub fn look(input: &[u8], at: usize, end: usize) -> Head
 }
 
 // The numbers before the code of a repeat; zeros for any other call.
-#[derive(Drop)]
+#[derive(Clone, Copy)]
 pub struct Counts {
     pub before: u32,
     pub rounds: u32,

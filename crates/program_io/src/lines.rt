@@ -10,7 +10,7 @@ use rules::names::*;
 const LINE: usize = 96;
 
 // A line: the first size bytes of text, with the end of line.
-#[derive(Drop)]
+#[derive(Clone, Copy)]
 pub struct Written {
     pub text: [u8; LINE],
     pub size: usize,

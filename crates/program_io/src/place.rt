@@ -8,7 +8,7 @@ use crate::case::respond;
 use rules::Reply;
 
 // input[at..end] is not answered yet, output[..out] is not written yet, and count cases are answered.
-#[derive(Drop)]
+#[derive(Clone, Copy)]
 pub struct Place {
     pub at: usize,
     pub end: usize,

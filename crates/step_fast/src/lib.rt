@@ -13,7 +13,7 @@ use rules::{Core, REGISTERS};
 
 // The outcome: done or declined, the registers after the step, and the number of words that it stores: 0; 1, value in word index; or 4,
 // the frame of a call from word index on: value, then A, B and C as they were before the step.
-#[derive(Drop)]
+#[derive(Clone, Copy)]
 pub struct FastStep {
     pub done: bool,
     pub core: Core,

@@ -20,7 +20,7 @@ pub(crate) const LONG: u32 = 5;
 const FULL: u32 = 6;
 
 // The line that was assembled last, the bytes of code so far, and how that line ended.
-#[derive(Drop)]
+#[derive(Clone, Copy)]
 pub(crate) struct Place {
     pub number: u64,
     pub size: usize,
@@ -28,21 +28,21 @@ pub(crate) struct Place {
 }
 
 // The bytes of code after a line, and how it ended.
-#[derive(Drop)]
+#[derive(Clone, Copy)]
 pub(crate) struct Done {
     pub reason: u32,
     pub size: usize,
 }
 
 // A word: where it ends, and its hash.
-#[derive(Drop)]
+#[derive(Clone, Copy)]
 struct Word {
     end: usize,
     hash: usize,
 }
 
 // An operand, and whether it is one.
-#[derive(Drop)]
+#[derive(Clone, Copy)]
 struct Operand {
     good: bool,
     value: u32,

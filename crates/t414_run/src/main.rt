@@ -13,7 +13,7 @@ use program_io::{answers, lines};
 use rules::Machine;
 
 // The fields of the line.
-#[derive(Drop)]
+#[derive(Clone, Copy)]
 struct Tally {
     machine: Machine,
     steps: u64,
