@@ -2,7 +2,7 @@
 -- gives, events and undos, some refused. By the history theorem of the rules (T414.antt).
 use mathlib.Core.Path.{◌≡◌, refl, sym, ap, subst, ◌∙◌}
 use mathlib.Core.List.{List, [], ◌∷◌, ◌++◌}
-use Prim.Native.Nat.{ℕ, zero, suc, ◌+◌, ◌-◌, ◌≤◌}
+use Prim.Native.Nat.{ℕ, zero, suc, ◌-◌, ◌≤◌}
 use native.Mathlib.Omega.{arith}
 use lib.Dec.{eqb}
 use lib.ListN.{length, drop, replicate, length-drop}
@@ -105,8 +105,8 @@ cut {s} {t} {numbers} [] after c = (
   },
   refl,
 )
-cut (a ∷ before) after (made r mem j h c) =
-    let m = cut before after c in (
+cut {s = s} {t = t} (a ∷ before) after (made {numbers = numbers} r mem j h c) =
+    let m = cut {s = left r mem j} {t = t} {numbers = numbers} before after c in (
       record {
         calls-before = a ∷ m.0.calls-before;
         calls-after = m.0.calls-after;
@@ -152,6 +152,7 @@ module _ (s : Whole) (e : Emptied s) where
   undos-accepted : (n : ℕ) (acts : List (Act Call)) (numbers others : List ℕ) (t u : Whole) → Chain s acts numbers t → n ≤ t.machine.depth
       → Chain t (replicate n undo) others u → others ≡ replicate n 0
   undos-accepted zero acts numbers [] t u c h ended = refl
+  undos-accepted zero acts numbers (_ ∷ _) t u c h x8 = elim x8 [ ]
   undos-accepted (suc n) acts numbers others t u c h (made r mem j m d) =
       let o = one-undo acts numbers t c (omega arith) in
       let first : number r ≡ 0 = ap (λ (x : Outcome). x.answer) m ∙ o.0 in

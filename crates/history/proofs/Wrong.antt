@@ -251,7 +251,7 @@ module _ (F : Functions) (f : MeetsFresh F.fresh) where
   there-is = ap after (f code lent paper)
 
   there45 : length there.machine.regs ≡ registers
-  there45 = rw there-is start45
+  there45 = ap (λ (w : Whole). length w.machine.regs) there-is ∙ start45
 
   there_accepts : (at rules.step there).answer ≡ 0
   there_accepts = ap (λ (w : Whole). (at rules.step w).answer) there-is ∙ computed-start.0.0
@@ -285,7 +285,7 @@ module _ (F : Functions) (f : MeetsFresh F.fresh) where
     first_leaves = ap after first-is
 
     first45 : length (hands_on first).machine.regs ≡ registers
-    first45 = rw first_leaves next45
+    first45 = ap (λ (w : Whole). length w.machine.regs) first_leaves ∙ next45
 
     aregs : (areg_of there ≡ 0) × (areg_of (hands_on first) ≡ 1)
     aregs = (ap areg_of there-is ∙ computed-start.0.1, ap areg_of first_leaves ∙ computed-start.0.2)
