@@ -10,7 +10,6 @@ use borrow.Author.Tests.{eq-eqb, ne_eqb, le-leb, lt-leb}
 use lib.Dec.{eqb}
 use lib.ListN.{length}
 use Rattle.rules.specs.Words.{index}
-use Rattle.rules.specs.Registers.{registers}
 use Rattle.rules.specs.Work.{Work, untraced, stop, outside, refuse_at, refuse, access, kind_load, word_at, read_word}
 use Rattle.rules.proofs.Tests.{yes_lt, yes_eq, cases_lt, cases_eq}
 use Rattle.laws.specs.Alike.{Ordinary}

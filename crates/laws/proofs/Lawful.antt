@@ -10,7 +10,6 @@ use lib.Dec.{ltb, leb, eqb}
 use lib.ListN.{length, length-append}
 use Rattle.rules.specs.Tests.{pick, if_lt, if_le, if_eq}
 use Rattle.rules.specs.Words.{index, offset, selector, at_byte, at_word, byte_of, with_byte}
-use Rattle.rules.specs.Registers.{registers}
 use Rattle.rules.specs.Memory.{Store, word, bytes}
 use Rattle.rules.specs.Work.{Access, Trace, untraced, traced, Work, put, raise, lower, goto_snp, put_core, put_system, put_both, outside, stop, kind_fetch, kind_load, kind_store, refuse, append, attempted, word_at, byte_at, access, fetch_byte, read_word, store_word, store_byte, r_index_word, r_index_byte, w_index_word, first_outside, up_to_outside, move_accesses, move_outside, move_or_refuse, transfer}
 use Rattle.rules.specs.declared.Core.{Core}

@@ -5,9 +5,8 @@ use mathlib.Core.List.{List, [], ◌∷◌, ◌++◌, append_assoc, append-nil}
 use Prim.Native.Nat.{ℕ, zero, suc, ◌≤◌, ◌<◌}
 use native.Mathlib.Omega.{arith}
 use lib.ListN.{length}
-use Rattle.rules.specs.Tests.{if_lt, if_eq}
-use Rattle.rules.specs.Words.{index, at_byte, offset}
-use Rattle.rules.specs.Memory.{Store, bytes}
+use Rattle.rules.specs.Words.{index, at_byte}
+use Rattle.rules.specs.Memory.{Store}
 use Rattle.rules.specs.Work.{Access, Trace, untraced, traced, Work, note, outside, kind_load, kind_store, refuse_at, refuse, append, access, first_outside, up_to_outside, move_outside, move_accesses, move_or_refuse, transfer}
 use Rattle.rules.proofs.Tests.{yes_lt, no_lt, yes_eq, no_eq, cases_lt, cases_eq}
 use Rattle.laws.specs.Alike.{Ordinary, Unrefused}

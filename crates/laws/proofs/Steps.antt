@@ -7,7 +7,7 @@ use native.Mathlib.Omega.{arith}
 use lib.Bits.{and_mask}
 use lib.ListN.{length}
 use Rattle.rules.specs.Words.{index}
-use Rattle.rules.specs.Registers.{registers, wdesc_reg, areg}
+use Rattle.rules.specs.Registers.{wdesc_reg, areg}
 use Rattle.rules.specs.Work.{Work, reg, put, lower, priority, stop}
 use Rattle.rules.specs.Timers.{tptr_loc, insert_first_step, delete_first_step}
 use Rattle.laws.specs.Alike.{Ordinary}

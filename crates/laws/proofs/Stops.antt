@@ -8,12 +8,11 @@ use native.Mathlib.Omega.{arith}
 use borrow.Author.Tests.{lt-ltb, le-ltb, eq-eqb, ne_eqb}
 use lib.Bits.{bit_and}
 use lib.Dec.{ltb, eqb}
-use lib.ListN.{length}
 use Rattle.rules.specs.Tests.{pick, if_lt, look}
 use Rattle.rules.specs.Words.{at_word, later}
 use Rattle.rules.specs.Stack as stack
-use Rattle.rules.specs.Registers.{registers, areg, breg, creg, clock_reg, flags_reg, channel_reg, t_enabled, core_of, run_request, ready_request}
-use Rattle.rules.specs.Work.{Work, reg, put, lower, wptr, priority, stop, unlisted, refuse, put_core, attempted, on_attempt, word_at, kind_load, read_word, r_index_word}
+use Rattle.rules.specs.Registers.{areg, breg, creg, clock_reg, flags_reg, channel_reg, t_enabled, core_of, run_request, ready_request}
+use Rattle.rules.specs.Work.{Work, reg, put, lower, wptr, priority, stop, unlisted, refuse, put_core, attempted, on_attempt, word_at, read_word, r_index_word}
 use Rattle.rules.specs.Scheduling.{enabling, waiting, ready, time_set, time_not_set, port_base, pointer_s, tlink_s, time_s}
 use Rattle.rules.specs.Timers.{next_time, insert_first_step, delete_first_step, tin, taltwt_time, taltwt_link, taltwt_state, taltwt, enbt_link, enbt_guard, enbt, dist_set, dist_link, dist, timer_status, timer_wake, timer_front, timer_serve, handle_timer_request}
 use Rattle.rules.specs.Channels.{ready_status, ready_content, handle_ready_request, handle_channel_request}

@@ -11,7 +11,6 @@ use lib.Dec.{eqb}
 use lib.ListN.{length, get_or}
 use Rattle.rules.specs.Tests.{pick, if_eq}
 use Rattle.rules.specs.Words.{at_word, index, later}
-use Rattle.rules.specs.Registers.{registers}
 use Rattle.rules.specs.Memory.{stores}
 use Rattle.rules.specs.Work.{Work, stop, word_at, refuse_at, access, kind_load, wptr}
 use Rattle.rules.specs.Scheduling.{tlink_s, not_process, time_s}

@@ -9,7 +9,7 @@ use borrow.Author.Tests.{eqb-true, eqb-false}
 use lib.Dec.{eqb}
 use lib.ListN.{length}
 use Rattle.rules.specs.Tests.{pick, if_lt, if_eq, look}
-use Rattle.rules.specs.Work.{outside, kind_fetch, kind_load, kind_store}
+use Rattle.rules.specs.Work.{outside, kind_fetch, kind_load}
 use Rattle.rules.specs.Calls.{numbered, Outcome, outcome_of}
 use Rattle.rules.specs.declared.Reply.{Reply}
 use Rattle.rules.specs.declared.Answer.{Answer}

@@ -12,7 +12,7 @@ use borrow.Author.Tests.{le-leb, lt-leb, le-ltb, lt-ltb, eq-eqb, ne_eqb}
 use Rattle.rules.specs.Words.{index}
 use Rattle.rules.specs.Registers.{registers, iptr_reg, pointer_reg, count_reg, channel_reg, active_bit, held_bit, event_channel, flags_reg, status_reg, oreg, idle_flag, halted_flag, link_chans}
 use Rattle.rules.specs.Memory.{Store, touched}
-use Rattle.rules.specs.Work.{Access, outside, Work, begin, put, raise, lower, access, refuse_at, refuse, append, store_byte, kind_fetch, kind_load, kind_store}
+use Rattle.rules.specs.Work.{outside, Work, begin, put, raise, lower, access, refuse_at, refuse, append, store_byte, kind_fetch, kind_load, kind_store}
 use Rattle.rules.specs.Timers.{timer_ready}
 use Rattle.rules.specs.Channels.{requested}
 use Rattle.rules.specs.Links as links

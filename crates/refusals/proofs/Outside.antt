@@ -3,15 +3,15 @@
 -- Of a machine of 45 registers.
 use mathlib.Core.Path.{◌≡◌, refl, sym, ap, subst, ◌∙◌}
 use mathlib.Core.Logic.{◌↔◌}
-use mathlib.Core.Bool.{Bool, true, false, ◌&&◌, ◌||◌}
-use mathlib.Core.List.{List, [], ◌∷◌, ◌++◌}
+use mathlib.Core.Bool.{Bool, true, false, ◌||◌}
+use mathlib.Core.List.{List, [], ◌++◌}
 use Prim.Native.Nat.{ℕ, ◌+◌, ◌^◌, ◌≤◌, ◌<◌}
 use native.Mathlib.Omega.{arith}
 use borrow.Author.Tests.{le-ltb, lt-leb, ltb-false}
 use lib.Dec.{ltb, eqb}
 use lib.ListN.{length, get_or, length-append}
 use lib.Seq.{sets}
-use Rattle.rules.specs.Tests.{pick, if_lt, if_eq}
+use Rattle.rules.specs.Tests.{pick, if_lt}
 use Rattle.rules.specs.Words.{index}
 use Rattle.rules.specs.Registers.{registers, iptr_reg}
 use Rattle.rules.specs.Work.{Access, Work, begin, outside, kind_fetch, kind_load, kind_store, first_outside}

@@ -9,7 +9,7 @@ use native.Mathlib.Omega.{arith}
 use borrow.Author.Tests.{lt-ltb, lt-leb, eq-eqb, ne_eqb, eqb-true, ltb-true, ltb-false}
 use lib.Dec.{ltb, eqb}
 use lib.ListN.{length, get_or}
-use Rattle.rules.specs.Tests.{pick, look}
+use Rattle.rules.specs.Tests.{look}
 use Rattle.rules.specs.Words.{index, later}
 use Rattle.rules.specs.Registers.{registers, iptr_reg, areg, breg, creg, clock_reg}
 use Rattle.rules.specs.Work.{Work, kind_load, kind_store, begin, reg, priority, word_at}
