@@ -1,4 +1,5 @@
-use borrow.Author.Tests.{eq-eqb, ne_eqb}
+use Rattle.std.proofs.Common.{eq-eqb}
+use borrow.Author.Tests.{ne_eqb}
 use Rattle.rules.specs.Stack.{ccnt1}
 use Rattle.core_ops.proofs.errors.ccnt1.Goals as goal
 

@@ -1,4 +1,4 @@
-use native.Mathlib.Omega.{arith}
+use Rattle.std.proofs.Common.{arith}
 use Rattle.rules.specs.Words.{sign, restore_to_range}
 use Rattle.rules.proofs.Tests.{yes_lt, no_lt}
 use Rattle.core_ops.proofs.logic.quarter.Goals as goal

@@ -1,15 +1,11 @@
-use mathlib.Core.Path.{◌≡◌}
-use native.Mathlib.Omega.{arith}
-use Prim.Native.Nat.{◌*◌, ◌^◌, ◌%◌}
+use Rattle.std.proofs.Common.{arith, ◌≡◌, ◌*◌, ◌^◌, ◌%◌}
 use Rattle.rules.specs.Stack.{shl}
 use Rattle.rules.proofs.Tests.{yes_lt, no_lt}
 use Rattle.core_ops.proofs.logic.shl.Goals as goal
 
 pub returns-then-s-gt32 : goal.returns-then-s-gt32
 unfolding shl
-returns-then-s-gt32 c =
-    let s = c.args.s in
-    rw (yes_lt {a = 32} {b = s.a} (omega arith)) c.stopped.ensures
+returns-then-s-gt32 c = rw (yes_lt {a = 32} {b = c.args.s.a} (omega arith)) c.stopped.ensures
 
 pub returns-then-s-eq32 : goal.returns-then-s-eq32
 unfolding shl
@@ -20,6 +16,4 @@ returns-then-s-eq32 c =
 
 pub returns : goal.returns
 unfolding shl
-returns c =
-    let s = c.args.s in
-    rw (no_lt {a = 32} {b = s.a} (omega arith), c.completed-2.ensures, c.result-2.ensures)
+returns c = rw (no_lt {a = 32} {b = c.args.s.a} (omega arith), c.completed-2.ensures, c.result-2.ensures)
