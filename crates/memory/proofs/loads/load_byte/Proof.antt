@@ -1,9 +1,0 @@
-use borrow.Author.Rules.{rules}
-use Rattle.memory.proofs.loads.load_byte.Statement.{statement}
-use Rattle.memory.proofs.loads.load_byte.Tie as tie
-
-pub load_byte_spec : {M : Type 1} → statement M
-load_byte_spec =
-    tie.close (tie.spec
-    (λ c κs. search rules) (λ c κs. search rules)
-    (λ c. (c.before.before.byte_at.ensures.0, c.access.ensures.0, c.before.before.byte_at.ensures.1, search rules)))
