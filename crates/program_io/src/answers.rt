@@ -38,6 +38,7 @@ fn outside(part: u32, address: u32) -> Refusal
 }
 
 // Returns number, part and address of an answer.
+#[tactic(auto, unfolding(rules::specs::Calls::numbered))]
 pub fn refusal_of(a: Answer) -> Refusal
     ensures { result ≡ in_numbers (numbered a) }
 {

@@ -6,6 +6,7 @@ use crate::bytes::move_down;
 use crate::case;
 use crate::case::respond;
 use rules::Reply;
+use std::io::Read;
 
 // input[at..end] is not answered yet, output[..out] is not written yet, and count cases are answered.
 #[derive(Clone, Copy)]
@@ -30,12 +31,14 @@ pub fn start() -> Place
     }
 }
 
-// Reads once, at most as many bytes as buf has; returns their number.
-fn read_some(buf: &mut [u8]) -> usize
+// Reads once, at most as many bytes as buf has; returns their number, 0 where the input ended or cannot be read.
+fn read_some(rt: &HostRuntime, buf: &mut [u8]) -> usize
     ensures { result ≤ length buf.new }
 {
-    let got = libc::read(0, buf);
-    io::count(got, buf)
+    match rt.stdin().read(buf) {
+        Ok(got) => got,
+        Err(_) => 0,
+    }
 }
 
 // Returns the state after a read of got bytes, where kept bytes were left.
@@ -50,7 +53,7 @@ fn after_read(kept: usize, got: usize) -> u32 {
 }
 
 // Where input is wanted, moves the bytes left to the front of the buffer and reads more after them.
-fn refill(p: Place, input: &mut [u8]) -> Place
+fn refill(rt: &HostRuntime, p: Place, input: &mut [u8]) -> Place
     requires { (p.at ≤ p.end) × (p.end ≤ length input.old) }
     ensures { (result.at ≤ result.end) × (result.end ≤ length input.new) × (result.out ≡ p.out) }
 {
@@ -60,7 +63,7 @@ fn refill(p: Place, input: &mut [u8]) -> Place
     let at = p.at;
     let kept = p.end - at;
     move_down(input, at, kept);
-    let got = read_some(&mut input[kept..]);
+    let got = read_some(rt, &mut input[kept..]);
     let state = after_read(kept, got);
     Place {
         at: 0,
@@ -72,12 +75,12 @@ fn refill(p: Place, input: &mut [u8]) -> Place
 }
 
 // Writes the responses in the output buffer.
-fn flush(p: Place, output: &[u8]) -> Place
+fn flush(rt: &HostRuntime, p: Place, output: &[u8]) -> Place
     requires { p.out ≤ length output.now }
     ensures { (result.at ≡ p.at) × (result.end ≡ p.end) × (result.out ≡ 0) }
 {
     let out = p.out;
-    let done = io::write_all(1, &output[..out]);
+    let done = rt.write_all(&output[..out]).is_ok();
     let state = if done { p.state } else { case::UNWRITTEN };
     Place {
         at: p.at,
@@ -89,22 +92,22 @@ fn flush(p: Place, output: &[u8]) -> Place
 }
 
 // Flushes the output buffer where the longest response does not fit.
-fn make_room(p: Place, output: &[u8]) -> Place
+fn make_room(rt: &HostRuntime, p: Place, output: &[u8]) -> Place
     requires { (p.out ≤ length output.now) × (most_response ≤ length output.now) }
     ensures { (result.at ≡ p.at) × (result.end ≡ p.end) × (result.out + most_response ≤ length output.now) }
 {
     if output.len() - p.out < case::MOST_RESPONSE {
-        return flush(p, output);
+        return flush(rt, p, output);
     }
     p
 }
 
 // Reads where input is wanted, and flushes where the longest response does not fit.
-pub fn ready(p: Place, input: &mut [u8], output: &[u8]) -> Place
+pub fn ready(rt: &HostRuntime, p: Place, input: &mut [u8], output: &[u8]) -> Place
     requires { (p.at ≤ p.end) × (p.end ≤ length input.old) × (p.out ≤ length output.now) × (most_response ≤ length output.now) }
     ensures { (result.at ≤ result.end) × (result.end ≤ length input.new) × (result.out + most_response ≤ length output.now) }
 {
-    make_room(refill(p, input), output)
+    make_room(rt, refill(rt, p, input), output)
 }
 
 // Returns the place after a case of size bytes, whose response ends at byte out of output.
@@ -116,7 +119,7 @@ fn after(p: Place, size: usize, out: usize) -> Place
         at: p.at + size,
         end: p.end,
         out: out,
-        count: std::num::wrapping_add_u64(p.count, 1),
+        count: p.count.wrapping_add(1),
         state: case::LOOK,
     }
 }
@@ -159,35 +162,34 @@ pub fn next(p: Place, turns: u64) -> u64
 }
 
 // Writes a line on standard error that names the case after the answered ones.
-fn complain(count: u64, what: &[u8]) {
-    io::write_all(2, b"t414_batch: case ");
-    io::print_decimal(2, std::num::wrapping_add_u64(count, 1));
-    io::write_all(2, b": ");
-    io::write_all(2, what);
+fn complain(rt: &HostRuntime, count: u64, what: &str) {
+    let number = count.wrapping_add(1);
+    let _ = eprintln!(rt; "t414_batch: case {number}: {what}");
 }
 
 // Reports the reason to stop, unless the input ended.
-fn report(p: Place) {
+fn report(rt: &HostRuntime, p: Place) {
     let state = p.state;
     match state {
-        case::CUT_SHORT => complain(p.count, b"cut short by the end of the input\n"),
-        case::UNKNOWN_CALL => complain(p.count, b"the call is not one of 0 to 8\n"),
+        case::CUT_SHORT => complain(rt, p.count, "cut short by the end of the input"),
+        case::UNKNOWN_CALL => complain(rt, p.count, "the call is not one of 0 to 8"),
         case::TOO_LONG => complain(
+            rt,
             p.count,
-            b"more than 16400 words, 65600 journal words or 65600 code bytes\n",
+            "more than 16400 words, 65600 journal words or 65600 code bytes",
         ),
-        case::TOO_SHORT => complain(p.count, b"fewer than 20 code bytes for call 8\n"),
-        case::UNWRITTEN => complain(p.count, b"the responses before it cannot be written\n"),
+        case::TOO_SHORT => complain(rt, p.count, "fewer than 20 code bytes for call 8"),
+        case::UNWRITTEN => complain(rt, p.count, "the responses before it cannot be written"),
         _ => {}
     }
 }
 
 // Flushes the output buffer and reports the reason to stop.
-pub fn finish(p: Place, output: &[u8]) -> Place
+pub fn finish(rt: &HostRuntime, p: Place, output: &[u8]) -> Place
     requires { p.out ≤ length output.now }
     ensures { (result.at ≡ p.at) × (result.end ≡ p.end) × (result.out ≡ 0) }
 {
-    let done = flush(p, output);
-    report(done);
+    let done = flush(rt, p, output);
+    report(rt, done);
     done
 }
