@@ -8,7 +8,7 @@ abbrev pub invariant-loop-k : goal.invariant-loop-k
 invariant-loop-k l =
     (l.f ≤ l.k) × (l.k ≤ 16) ×
     ((m : List ℕ) → get_or (stores m (slice l.f l.t (singles (indices_of l.log) (values_of l.log)))) l.i 0
-        ≡ get_or (stores m (slice l.f l.k (singles (indices_of l.log) (values_of l.log)))) l.i 0)
+    ≡ get_or (stores m (slice l.f l.k (singles (indices_of l.log) (values_of l.log)))) l.i 0)
 
 abbrev pub decreases-loop-k : goal.decreases-loop-k
 decreases-loop-k l = l.k
