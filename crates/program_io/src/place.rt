@@ -32,7 +32,7 @@ pub fn start() -> Place
 }
 
 // Reads once, at most as many bytes as buf has; returns their number, 0 where the input ended or cannot be read.
-fn read_some(rt: &HostRuntime, buf: &mut [u8]) -> usize
+pub(crate) fn read_some(rt: &HostRuntime, buf: &mut [u8]) -> usize
     ensures { result ≤ length buf.new }
 {
     match rt.stdin().read(buf) {

@@ -8,6 +8,7 @@ mod table; // the names, learnt from the listing
 ghost use Rattle.std.specs.Prelude.{◌≡◌, ◌≤◌, length};
 
 use line::Place;
+use program_io::input::read_full;
 
 // The most bytes of text, and one more, which tells that there is too much. No line makes more code than it has text.
 const MOST: usize = 1048576;
@@ -38,7 +39,7 @@ fn assemble_text(text: &[u8], names: &[u8], slots: &[u8], out: &mut [u8]) -> Pla
         let stop = line::content_end(text, at);
         let done = line::assemble_line(text, at, stop, names, slots, out, size);
         let reason = done.reason;
-        number = std::num::wrapping_add_u64(number, 1);
+        number = number.wrapping_add(1);
         size = done.size;
         if reason != line::GOOD {
             return Place {
@@ -57,55 +58,50 @@ fn assemble_text(text: &[u8], names: &[u8], slots: &[u8], out: &mut [u8]) -> Pla
 }
 
 // Tells why a line is bad.
-fn complain(number: u64, reason: u32) {
-    io::write_all(2, b"asm: line ");
-    io::print_decimal(2, number);
-    match reason {
-        line::UNKNOWN => io::write_all(
-            2,
-            b": no operation, and no function with an operand, has this name (names are in lower case; prefixes are written as needed)\n",
-        ),
-        line::MISSING => io::write_all(2, b": the operand is missing\n"),
-        line::NUMBER => io::write_all(
-            2,
-            b": the operand is no number from -2147483648 to 2147483647, and no # with 1 to 8 hexadecimal digits\n",
-        ),
-        line::MORE => io::write_all(2, b": there is more on the line than one instruction\n"),
-        line::LONG => io::write_all(2, b": the operand needs more than eight bytes\n"),
-        _ => io::write_all(2, b": the code is longer than 1 MiB\n"),
+fn complain(rt: &HostRuntime, number: u64, reason: u32) {
+    let what = match reason {
+        line::UNKNOWN =>
+            "no operation, and no function with an operand, has this name (names are in lower case; prefixes are written as needed)",
+        line::MISSING => "the operand is missing",
+        line::NUMBER =>
+            "the operand is no number from -2147483648 to 2147483647, and no # with 1 to 8 hexadecimal digits",
+        line::MORE => "there is more on the line than one instruction",
+        line::LONG => "the operand needs more than eight bytes",
+        _ => "the code is longer than 1 MiB",
     };
+    let _ = eprintln!(rt; "asm: line {number}: {what}");
 }
 
 // Writes the code, or tells why there is none.
-fn finish(place: Place, out: &[u8])
+fn finish(rt: &HostRuntime, place: Place, out: &[u8])
     requires { place.size ≤ length out.now }
 {
     if place.reason != line::GOOD {
-        complain(place.number, place.reason);
+        complain(rt, place.number, place.reason);
         return;
     }
     let size = place.size;
-    if !io::write_all(1, &out[..size]) {
-        io::write_all(2, b"asm: the code cannot be written\n");
+    if rt.write_all(&out[..size]).is_err() {
+        let _ = rt.eprintln("asm: the code cannot be written");
     }
 }
 
 // Learns the names and assembles a text.
-fn run(text: &[u8], out: &mut [u8]) {
+fn run(rt: &HostRuntime, text: &[u8], out: &mut [u8]) {
     let mut names = table::names();
     let mut slots = table::slots();
     table::learn(&mut names, &mut slots);
     let place = assemble_text(text, &names, &slots, out);
-    finish(place, out);
+    finish(rt, place, out);
 }
 
-fn main() {
+fn main(rt: HostRuntime) {
     let mut text = input();
-    let got = io::read_full(0, &mut text);
+    let got = read_full(&rt, &mut text);
     if got > MOST {
-        io::write_all(2, b"asm: the text is longer than 1 MiB\n");
+        let _ = rt.eprintln("asm: the text is longer than 1 MiB");
         return;
     }
     let mut out = output();
-    run(&text[..got], &mut out);
+    run(&rt, &text[..got], &mut out);
 }

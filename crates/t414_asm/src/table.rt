@@ -72,7 +72,7 @@ fn same(names: &[u8], row: usize, text: &[u8], from: usize, to: usize) -> bool
     let mut k = from;
     let mut j = first;
     while k < to {
-        j = std::num::wrapping_add_usize(j, 1);
+        j = j.wrapping_add(1);
         if byte_at(names, j) != byte_at(text, k) {
             return false;
         }

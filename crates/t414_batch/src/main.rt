@@ -196,7 +196,13 @@ fn answer_case(
 }
 
 // Answers cases until there is a reason to stop. The input has no bound, so the loop has a count of turns that no run can use up.
-fn answer_all(input: &mut [u8], output: &mut [u8], mem: &mut [u32], journal: &mut [u32]) -> Place
+fn answer_all(
+    rt: &HostRuntime,
+    input: &mut [u8],
+    output: &mut [u8],
+    mem: &mut [u32],
+    journal: &mut [u32],
+) -> Place
     requires { (most_response ≤ length output.old) × (most_words ≤ length mem.old) × (most_journal ≤ length journal.old) }
     ensures { result.out ≤ length output.new }
 {
@@ -204,17 +210,17 @@ fn answer_all(input: &mut [u8], output: &mut [u8], mem: &mut [u32], journal: &mu
     let mut turns = u64::MAX;
     while turns > 0 {
         p = answer_case(p, input, output, mem, journal);
-        p = place::ready(p, input, output);
+        p = place::ready(rt, p, input, output);
         turns = place::next(p, turns);
     }
     p
 }
 
-fn main() {
+fn main(rt: HostRuntime) {
     let mut input = room::bytes();
     let mut output = room::bytes();
     let mut mem = room::memory();
     let mut journal = room::journal();
-    let p = answer_all(&mut input, &mut output, &mut mem, &mut journal);
-    place::finish(p, &output);
+    let p = answer_all(&rt, &mut input, &mut output, &mut mem, &mut journal);
+    place::finish(&rt, p, &output);
 }

@@ -5,7 +5,9 @@
 ghost use Rattle.std.specs.Prelude.{◌≡◌, ◌+◌, ◌<◌, ◌≤◌, length};
 
 use assembly::Verdict;
+use program_io::input::read_full;
 use rules::names::MEM_START;
+use std::env::{Env, FillError};
 
 // The most bytes of code, and one more, which tells that there is too much.
 const MOST: usize = 1048576;
@@ -93,21 +95,21 @@ fn put_blanks(text: &mut [u8], start: usize, n: usize) -> usize
 }
 
 // Writes text, and says so where that fails.
-fn write(text: &[u8]) {
-    if !io::write_all(1, text) {
-        io::write_all(2, b"list: the listing cannot be written\n");
+fn write(rt: &HostRuntime, text: &[u8]) {
+    if rt.write_all(text).is_err() {
+        let _ = rt.eprintln("list: the listing cannot be written");
     }
 }
 
 // Writes the gathered text where there is much of it; returns its new end.
-fn flushed(text: &[u8], end: usize) -> usize
+fn flushed(rt: &HostRuntime, text: &[u8], end: usize) -> usize
     requires { end ≤ length text.now }
     ensures { result ≤ length text.now }
 {
     if end < GATHERED {
         return end;
     }
-    write(&text[..end]);
+    write(rt, &text[..end]);
     0
 }
 
@@ -135,7 +137,14 @@ fn put_address(text: &mut [u8], end: usize, address: u32) -> usize
 }
 
 // Puts the bytes of a chain, code[from..to], two digits and a space each.
-fn put_bytes(text: &mut [u8], start: usize, code: &[u8], from: usize, to: usize) -> usize
+fn put_bytes(
+    rt: &HostRuntime,
+    text: &mut [u8],
+    start: usize,
+    code: &[u8],
+    from: usize,
+    to: usize,
+) -> usize
     requires { (start ≤ length text.old) × (from ≤ to) × (to ≤ length code.now) }
     ensures { result ≤ length text.old }
 {
@@ -146,7 +155,7 @@ fn put_bytes(text: &mut [u8], start: usize, code: &[u8], from: usize, to: usize)
         end = put(text, end, digit(byte / 16));
         end = put(text, end, digit(byte % 16));
         end = put(text, end, b' ');
-        end = flushed(text, end);
+        end = flushed(rt, text, end);
         k += 1;
     }
     end
@@ -168,14 +177,14 @@ fn wide(x: u8) -> u32
 }
 
 // Puts the listing of a piece of code behind the gathered text; returns the new end.
-fn put_listing(code: &[u8], text: &mut [u8], end: usize) -> usize
+fn put_listing(rt: &HostRuntime, code: &[u8], text: &mut [u8], end: usize) -> usize
     requires { end ≤ length text.old }
     ensures { result ≤ length text.old }
 {
     let written = assembler::list(code, &mut text[end..]);
     let verdict = written.verdict;
     if let Verdict::NoRoom = verdict {
-        io::write_all(2, b"list: the listing of a piece of code does not fit\n");
+        let _ = rt.eprintln("list: the listing of a piece of code does not fit");
     }
     end + written.size
 }
@@ -206,7 +215,13 @@ fn join(text: &mut [u8], end: usize, more: bool) {
 }
 
 // Puts the listing of an unfinished chain, code[from..], piece by piece: the newline behind a piece that is not the last becomes a space.
-fn put_unfinished(code: &[u8], from: usize, text: &mut [u8], start: usize) -> usize
+fn put_unfinished(
+    rt: &HostRuntime,
+    code: &[u8],
+    from: usize,
+    text: &mut [u8],
+    start: usize,
+) -> usize
     requires { (from ≤ length code.now) × (start ≤ length text.old) }
     ensures { result ≤ length text.old }
 {
@@ -214,8 +229,8 @@ fn put_unfinished(code: &[u8], from: usize, text: &mut [u8], start: usize) -> us
     let mut at = from;
     while at < code.len() {
         let next = last_of_piece(at, code.len()) + 1;
-        end = flushed(text, end);
-        end = put_listing(&code[at..next], text, end);
+        end = flushed(rt, text, end);
+        end = put_listing(rt, &code[at..next], text, end);
         at = next;
         join(text, end, at < code.len());
     }
@@ -223,7 +238,7 @@ fn put_unfinished(code: &[u8], from: usize, text: &mut [u8], start: usize) -> us
 }
 
 // Puts the listing of code, a line a chain; returns the end of what is not written yet.
-fn list_plain(code: &[u8], text: &mut [u8]) -> usize
+fn list_plain(rt: &HostRuntime, code: &[u8], text: &mut [u8]) -> usize
     ensures { result ≤ length text.old }
 {
     let tail = unfinished(code);
@@ -231,28 +246,35 @@ fn list_plain(code: &[u8], text: &mut [u8]) -> usize
     let mut at = 0;
     while at < tail {
         let next = chain_end(code, last_of_piece(at, tail));
-        end = flushed(text, end);
-        end = put_listing(&code[at..next], text, end);
+        end = flushed(rt, text, end);
+        end = put_listing(rt, &code[at..next], text, end);
         at = next;
     }
-    put_unfinished(code, tail, text, end)
+    put_unfinished(rt, code, tail, text, end)
 }
 
 // Puts the address and the bytes of a chain, code[from..to].
-fn put_head(code: &[u8], from: usize, to: usize, text: &mut [u8], start: usize) -> usize
+fn put_head(
+    rt: &HostRuntime,
+    code: &[u8],
+    from: usize,
+    to: usize,
+    text: &mut [u8],
+    start: usize,
+) -> usize
     requires { (start ≤ length text.old) × (from ≤ to) × (to ≤ length code.now) }
     ensures { result ≤ length text.old }
 {
-    let address = std::num::wrapping_add_u32(MEM_START, (from % 4294967296) as u32);
-    let mut end = flushed(text, start);
+    let address = MEM_START.wrapping_add((from % 4294967296) as u32);
+    let mut end = flushed(rt, text, start);
     end = put_address(text, end, address);
     end = put_blanks(text, end, 2);
-    end = put_bytes(text, end, code, from, to);
+    end = put_bytes(rt, text, end, code, from, to);
     put_blanks(text, end, blanks_after(to - from))
 }
 
 // Puts the listing of code with addresses and bytes; returns the end of what is not written yet.
-fn list_addresses(code: &[u8], text: &mut [u8]) -> usize
+fn list_addresses(rt: &HostRuntime, code: &[u8], text: &mut [u8]) -> usize
     ensures { result ≤ length text.old }
 {
     let tail = unfinished(code);
@@ -260,30 +282,39 @@ fn list_addresses(code: &[u8], text: &mut [u8]) -> usize
     let mut at = 0;
     while at < tail {
         let next = chain_end(code, at);
-        end = put_head(code, at, next, text, end);
-        end = put_listing(&code[at..next], text, end);
+        end = put_head(rt, code, at, next, text, end);
+        end = put_listing(rt, &code[at..next], text, end);
         at = next;
     }
     if tail == code.len() {
         return end;
     }
-    let head = put_head(code, tail, code.len(), text, end);
-    put_unfinished(code, tail, text, head)
+    let head = put_head(rt, code, tail, code.len(), text, end);
+    put_unfinished(rt, code, tail, text, head)
 }
 
-fn main() {
+// Tests whether the program has an argument.
+fn has_argument(rt: &HostRuntime) -> bool {
+    let mut start = [0u8; 1];
+    match rt.arg(1, &mut start) {
+        Err(FillError::NotPresent) => false,
+        _ => true,
+    }
+}
+
+fn main(rt: HostRuntime) {
     let mut code = input();
-    let got = io::read_full(0, &mut code);
+    let got = read_full(&rt, &mut code);
     if got > MOST {
-        io::write_all(2, b"list: the code is longer than 1 MiB\n");
+        let _ = rt.eprintln("list: the code is longer than 1 MiB");
         return;
     }
     let mut text = output();
-    if os::arg_count() > 1 {
-        let end = list_addresses(&code[..got], &mut text);
-        write(&text[..end]);
+    if has_argument(&rt) {
+        let end = list_addresses(&rt, &code[..got], &mut text);
+        write(&rt, &text[..end]);
     } else {
-        let end = list_plain(&code[..got], &mut text);
-        write(&text[..end]);
+        let end = list_plain(&rt, &code[..got], &mut text);
+        write(&rt, &text[..end]);
     }
 }

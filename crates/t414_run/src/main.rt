@@ -9,7 +9,7 @@ ghost use Rattle.t414_run.specs.Program.{result_of};
 
 use program_io::answers::Refusal;
 use program_io::lines::Written;
-use program_io::{answers, lines};
+use program_io::{answers, input, lines};
 use rules::Machine;
 
 // The fields of the line.
@@ -68,29 +68,32 @@ fn run_code(mem: &mut [u32], journal: &mut [u32], code: &[u8]) -> Tally
     run(machine, mem, journal)
 }
 
-// Writes a line on standard output (1) or standard error (2).
-fn print(stream: i32, line: Written)
+// Writes a line on standard output or standard error.
+fn print(stream: &impl Print, line: Written)
     requires { line.size ≤ length line.text }
 {
     let text = line.text;
     let n = line.size;
-    io::write_all(stream, &text[..n]);
+    let _ = stream.write_all(&text[..n]);
 }
 
 // Prints the line, and on standard error the access that was outside memory, where there is one.
-fn print_tally(t: Tally) {
+fn print_tally(rt: &HostRuntime, t: Tally) {
     let m = t.machine;
     let refusal = t.refusal;
-    print(1, lines::line(m, t.steps, refusal));
+    print(&rt.stdout(), lines::line(m, t.steps, refusal));
     if refusal.part != 0 {
-        print(2, lines::outside_line(refusal.part, refusal.address));
+        print(
+            &rt.stderr(),
+            lines::outside_line(refusal.part, refusal.address),
+        );
     }
 }
 
-fn main() {
+fn main(rt: HostRuntime) {
     let mut mem = [0u32; 1024];
     let mut journal = [0u32; 8192];
     let mut code = [0u8; 4021];
-    let got = io::read_full(0, &mut code);
-    print_tally(run_code(&mut mem, &mut journal, &code[..got]));
+    let got = input::read_full(&rt, &mut code);
+    print_tally(&rt, run_code(&mut mem, &mut journal, &code[..got]));
 }
