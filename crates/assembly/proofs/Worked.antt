@@ -1,7 +1,7 @@
 -- 02's worked lines and 01's four lines that load, as one table by computation; and a machine that comes to the end of 02's first line.
 use mathlib.Core.Path.{◌≡◌, refl}
 use mathlib.Core.List.{List, [], ◌∷◌}
-use Prim.Native.Nat.{ℕ, ◌-◌}
+use Prim.Native.Nat.{ℕ}
 use native.Mathlib.Omega.{arith}
 use Rattle.rules.specs.Tests.{if_lt, if_eq}
 use Rattle.rules.specs.Words.{minus}

@@ -1,7 +1,6 @@
 // The types of the assembler and the listing. What they do is defined in specs/, and what is proved of it stands in proofs/.
 #![tactic(auto)]
 
-
 // The answer of a call: Done, or a refusal, in the order in which they are met.
 #[derive(Clone, Copy)]
 pub enum Verdict {
