@@ -1,4 +1,4 @@
-use Rattle.std.proofs.Common.{◌≡◌, ◌-◌, ◌^◌, ◌<◌, sym, ◌∙◌, arith, pow-add}
+use Rattle.std.proofs.Common.{◌≡◌, ◌^◌, ◌<◌, sym, ◌∙◌, arith, pow-add}
 use lib.Count.{count_leading_zeros}
 use Rattle.rules.proofs.Tests.{yes_eq, no_eq}
 use Rattle.rules.specs.Stack.{norm}
