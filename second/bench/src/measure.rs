@@ -129,8 +129,8 @@ fn valgrind(
     count.ok_or(format!("{words:?} told no count"))
 }
 
-/// x86-64 instructions of a run, counted one by one: by valgrind on x86-64, by the Rattle kit's
-/// emulator elsewhere. A native program of another machine has none.
+/// x86-64 instructions of a run, counted one by one: by valgrind on x86-64, by the emulator
+/// elsewhere, where it is there. A native program of another machine has none.
 fn instructions(
     program: &Program,
     scenario: &Scenario,

@@ -26,8 +26,8 @@ pub struct Outcome {
 
 impl Program {
     /// A path, or a bare name: then a program beside this one, else one that Rattle has built in
-    /// the project's `target/bin`. A program in a folder `target/bin` is run as Rattle runs it,
-    /// and `rattle:PATH` forces that.
+    /// the project, `crates/NAME/out/NAME`. A program in such a folder `out` is taken for one that
+    /// Rattle has built, and `rattle:PATH` forces that.
     pub fn find(text: &str) -> Result<Program, String> {
         if let Some(path) = text.strip_prefix("rattle:") {
             return Program::at(Path::new(path), true);
@@ -41,11 +41,10 @@ impl Program {
         if beside.is_file() {
             return Program::at(&beside, false);
         }
-        let folders = own
-            .ancestors()
-            .map(|folder| folder.join("target/bin").join(text));
-        let built = folders.into_iter().find(|path| path.is_file());
-        let built = built.ok_or(format!("no program {text} beside compare or in target/bin"))?;
+        let inner = format!("crates/{text}/out/{text}");
+        let mut folders = own.ancestors().map(|folder| folder.join(&inner));
+        let built = folders.find(|path| path.is_file());
+        let built = built.ok_or(format!("no program {text} beside compare, and no {inner}"))?;
         Program::at(&built, true)
     }
 
@@ -121,43 +120,50 @@ fn read_all(from: Option<impl Read>) -> Vec<u8> {
     bytes
 }
 
+/// Whether a path ends as `crates/NAME/out/PROGRAM`.
 fn in_rattle_folder(path: &Path) -> bool {
-    let folder = path.parent();
-    folder.is_some_and(|folder| folder.ends_with("target/bin"))
+    let mut above = path.ancestors().skip(1);
+    let out = above.next().and_then(Path::file_name);
+    let crates = above.nth(1).and_then(Path::file_name);
+    out.is_some_and(|name| name == "out") && crates.is_some_and(|name| name == "crates")
 }
 
-/// The folder of the kit: two above the guide that `rt doc` names.
+/// The folder of the kit, in which the page stands that `rt doc` names.
 fn kit() -> Result<PathBuf, String> {
     let answer = Command::new("rt").arg("doc").output();
     let answer = answer.map_err(|error| format!("rt doc: {error}"))?;
-    let guide = String::from_utf8_lossy(&answer.stdout).trim().to_string();
-    let home = Path::new(&guide).parent().and_then(Path::parent);
-    Ok(home.ok_or("rt doc names no guide")?.into())
+    let page = String::from_utf8_lossy(&answer.stdout).trim().to_string();
+    Ok(Path::new(&page)
+        .parent()
+        .ok_or("rt doc names no page")?
+        .into())
 }
 
-/// As `rt` runs a program: the kit's loader, and the kit's emulator where the machine is no x86-64.
+/// The emulator for x86-64, where this machine is another and the emulator is on the path.
+fn emulator() -> Option<PathBuf> {
+    if std::env::consts::ARCH == "x86_64" {
+        return None;
+    }
+    let path = std::env::var_os("PATH")?;
+    let mut places = std::env::split_paths(&path).map(|folder| folder.join("qemu-x86_64"));
+    places.find(|place| place.is_file())
+}
+
+/// A program that Rattle has built is one for x86-64. On another machine it runs under an emulator
+/// that is on the path, with the kit's loader and C library, or else as the machine itself runs it.
 fn rattle_command(program: &Path) -> Result<Command, String> {
     static KIT: OnceLock<Result<PathBuf, String>> = OnceLock::new();
-    let home = KIT.get_or_init(kit).clone()?;
-    let tools = home
-        .join("on")
-        .join(std::env::consts::ARCH)
-        .join("toolchain");
-    let library = tools.join("lib");
-    let loader = library.join("ld-linux-x86-64.so.2");
-    let emulator = tools.join("bin/qemu-x86_64");
-    let mut command = if emulator.is_file() {
-        let mut command = Command::new(emulator);
-        command.arg(loader);
-        command
-    } else {
-        Command::new(loader)
+    let Some(emulator) = emulator() else {
+        return Ok(Command::new(program));
     };
+    let library = KIT.get_or_init(kit).clone()?.join("toolchain/lib");
+    let mut command = Command::new(emulator);
     for (name, _) in std::env::vars_os() {
         if name.to_string_lossy().starts_with("QEMU_") {
             command.env_remove(name);
         }
     }
+    command.arg(library.join("ld-linux-x86-64.so.2"));
     command.arg("--library-path").arg(library).arg(program);
     Ok(command)
 }

@@ -17,7 +17,7 @@ bench --check [PROGRAM_A PROGRAM_B]
 bench --text [--runs N] [ASSEMBLER LISTER]
 bench --input LINE ROUNDS
 Without --counts or --times, both are measured. A program is a path, a name (beside bench, else
-Rattle's target/bin) or rattle:PATH; t414_batch and second_batch if none are given. Each has to
+Rattle's crates/NAME/out) or rattle:PATH; t414_batch and second_batch if none are given. Each has to
 answer what the second emulator does.
 --counts      instructions a call
 --times       calls a second, the best of --runs (7) runs of about --calls (500,000) calls

@@ -18,7 +18,7 @@ compare --run PROGRAM_A PROGRAM_B SEED COUNT
 compare --asm ASM SEED COUNT
 compare --list [--addresses] LIST SEED COUNT
 compare --list-asm LIST ASM SEED COUNT
-A program is a path, a name (beside compare, else Rattle's target/bin), rattle:PATH,
+A program is a path, a name (beside compare, else Rattle's crates/NAME/out), rattle:PATH,
 second (inside compare) or wrong:NAME (a wrong variant).
 --calls LIST  only these calls: fresh,step,tick,take,give,event,undo,clear
 --seq         sequences of calls from fresh in place of random states
