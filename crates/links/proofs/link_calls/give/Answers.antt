@@ -1,0 +1,33 @@
+use borrow.Author.Rules.{rules}
+use mathlib.Core.Path.{sym, ◌∙◌}
+use Rattle.rules.proofs.Tests.{yes_eq, no_eq}
+use Rattle.links.proofs.Motion.{moving_yes, moving_no}
+use Rattle.rules.specs.Links.{give}
+use Rattle.links.proofs.link_calls.give.Goals as goal
+
+pub returns-then-moving : goal.returns-then-moving
+unfolding give
+returns-then-moving c =
+    (rw (moving_yes _ _ (sym (c.moving.ensures c.args.log.now) ∙ c.if-moving.true)) c.receive.ensures.0, search rules)
+
+pub returns-then-regs-k-eq0 : goal.returns-then-regs-k-eq0
+unfolding give
+returns-then-regs-k-eq0 c =
+    (
+      rw (
+        moving_no _ _ (sym (c.moving.ensures c.args.log.now) ∙ c.if-moving.false),
+        yes_eq c.if-regs-k-eq0.true,
+      ) (c.hold.ensures _),
+      search rules,
+    )
+
+pub returns : goal.returns
+unfolding give
+returns c =
+    (
+      rw (
+        moving_no _ _ (sym (c.moving.ensures c.args.log.now) ∙ c.if-moving.false),
+        no_eq c.if-regs-k-eq0.false,
+      ) (c.refuse.ensures.0 _),
+      search rules,
+    )
