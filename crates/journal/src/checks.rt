@@ -40,6 +40,7 @@ pub fn not_input(channel: u32) -> bool
 }
 
 // Returns the number of the first refusal that applies: Size, BadChannel (where wrong is true), JournalBad; else 0.
+#[tactic(auto, unfolding(crate::specs::Checks::first_bad))]
 pub fn first_bad(wrong: bool, memory: usize, journal: usize, depth: usize, used: usize) -> u32
     ensures { result ≡ first_bad wrong memory journal depth used }
 {
