@@ -1,0 +1,7 @@
+use Rattle.std.proofs.Common.{rules}
+use Rattle.rules.specs.Scheduling.{run, runp}
+use Rattle.processes.proofs.starting.runp.Goals as goal
+
+pub returns : goal.returns
+unfolding runp
+returns c = (c.run.ensures.0, search rules)
