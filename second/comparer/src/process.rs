@@ -56,7 +56,7 @@ impl Program {
         Ok(Program { path, rattle })
     }
 
-    /// Whether the program says by its status that it failed; those that Rattle builds cannot.
+    /// Whether the program says by its status that it failed; those that Rattle builds do not.
     pub fn has_status(&self) -> bool {
         !self.rattle
     }
