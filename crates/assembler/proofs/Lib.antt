@@ -1,5 +1,4 @@
 mod Stores
-mod Bytes
 mod Rows
 mod Digits
 mod Text
