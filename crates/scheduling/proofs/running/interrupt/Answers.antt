@@ -5,11 +5,10 @@ use Rattle.scheduling.proofs.running.interrupt.Goals as goal
 
 pub returns : goal.returns
 unfolding interrupt put
-returns c =
-    (
-      rw (
-        ← c.save_registers.ensures.0,
-        ← c.mask_status.ensures,
-      ) c.activate_process.ensures.0,
-      search rules,
-    )
+returns c = (
+  rw (
+    ← c.save_registers.ensures.0,
+    ← c.mask_status.ensures,
+  ) c.activate_process.ensures.0,
+  search rules,
+)

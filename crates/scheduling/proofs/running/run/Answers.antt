@@ -1,6 +1,6 @@
 use borrow.Author.Rules.{rules}
 use Rattle.rules.proofs.Tests.{yes_eq, no_eq}
-use Rattle.rules.specs.Scheduling.{enqueue, run}
+use Rattle.rules.specs.Scheduling.{run}
 use Rattle.scheduling.proofs.running.run.Goals as goal
 
 pub returns-then-regs-eq0 : goal.returns-then-regs-eq0

@@ -1,6 +1,6 @@
 use borrow.Author.Rules.{rules}
 use Rattle.rules.proofs.Tests.{yes_eq, no_eq}
-use Rattle.rules.specs.Scheduling.{enqueue, run_low}
+use Rattle.rules.specs.Scheduling.{run_low}
 use Rattle.rules.specs.Work.{put}
 use Rattle.scheduling.proofs.running.run_low.Goals as goal
 

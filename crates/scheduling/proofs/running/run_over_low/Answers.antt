@@ -1,6 +1,6 @@
 use borrow.Author.Rules.{rules}
 use Rattle.rules.proofs.Tests.{yes_eq, no_eq}
-use Rattle.rules.specs.Scheduling.{interrupt, run_over_low}
+use Rattle.rules.specs.Scheduling.{run_over_low}
 use Rattle.scheduling.proofs.running.run_over_low.Goals as goal
 
 pub returns-then-descriptor-eq0 : goal.returns-then-descriptor-eq0

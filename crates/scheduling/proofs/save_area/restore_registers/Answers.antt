@@ -1,5 +1,5 @@
 use borrow.Author.Rules.{rules}
-use Rattle.rules.specs.Scheduling.{resumed, restore, restore_registers}
+use Rattle.rules.specs.Scheduling.{restore_registers}
 use Rattle.scheduling.proofs.save_area.restore_registers.Goals as goal
 
 pub returns : goal.returns

@@ -1,5 +1,5 @@
 use borrow.Author.Rules.{rules}
-use Rattle.rules.specs.Scheduling.{save, save_registers}
+use Rattle.rules.specs.Scheduling.{save_registers}
 use Rattle.scheduling.proofs.save_area.save_registers.Goals as goal
 
 pub returns : goal.returns

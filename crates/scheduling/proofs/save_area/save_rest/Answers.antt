@@ -1,6 +1,6 @@
 use borrow.Author.Rules.{rules}
 use Rattle.rules.proofs.Tests.{yes_eq, no_eq}
-use Rattle.rules.specs.Scheduling.{save, save_rest}
+use Rattle.rules.specs.Scheduling.{save_rest}
 use Rattle.scheduling.proofs.save_area.save_rest.Goals as goal
 
 pub returns-then-regs-eq-NO_LOW_PROCESS : goal.returns-then-regs-eq-NO_LOW_PROCESS
@@ -9,8 +9,7 @@ returns-then-regs-eq-NO_LOW_PROCESS c = (rw (yes_eq c.if-regs-eq-NO_LOW_PROCESS.
 
 pub returns : goal.returns
 unfolding save_rest
-returns c =
-    (
+returns c = (
   rw (
     no_eq c.if-regs-eq-NO_LOW_PROCESS.false,
     ← c.save.ensures.0,

@@ -1,5 +1,5 @@
 use borrow.Author.Rules.{rules}
-use Rattle.rules.specs.Scheduling.{dequeue, start_queued}
+use Rattle.rules.specs.Scheduling.{start_queued}
 use Rattle.scheduling.proofs.start_next.start_queued.Goals as goal
 
 pub returns : goal.returns

@@ -1,6 +1,6 @@
 use borrow.Author.Rules.{rules}
 use Rattle.rules.proofs.Tests.{yes_eq, no_eq}
-use Rattle.rules.specs.Scheduling.{stopp, stoperr}
+use Rattle.rules.specs.Scheduling.{stoperr}
 use Rattle.scheduling.proofs.stopping.stoperr.Goals as goal
 
 pub returns-then-regs-eq0 : goal.returns-then-regs-eq0

@@ -1,5 +1,5 @@
 use borrow.Author.Rules.{rules}
-use Rattle.rules.specs.Scheduling.{stopp, wait}
+use Rattle.rules.specs.Scheduling.{wait}
 use Rattle.scheduling.proofs.stopping.wait.Goals as goal
 
 pub returns : goal.returns
