@@ -1,5 +1,5 @@
 use borrow.Author.Rules.{rules}
-use Rattle.rules.specs.Data.{entered, call}
+use Rattle.rules.specs.Data.{call}
 use Rattle.data.proofs.calls.call.Goals as goal
 
 pub returns : goal.returns

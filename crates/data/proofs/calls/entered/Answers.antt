@@ -1,4 +1,4 @@
-use Rattle.rules.specs.Data.{adjusted, entered}
+use Rattle.rules.specs.Data.{entered}
 use Rattle.rules.specs.Work.{put}
 use Rattle.data.proofs.calls.entered.Goals as goal
 

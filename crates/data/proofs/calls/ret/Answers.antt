@@ -1,5 +1,5 @@
 use borrow.Author.Rules.{rules}
-use Rattle.rules.specs.Data.{adjusted, ret}
+use Rattle.rules.specs.Data.{ret}
 use Rattle.data.proofs.calls.ret.Goals as goal
 
 pub returns : goal.returns

@@ -1,5 +1,5 @@
 use borrow.Author.Rules.{rules}
-use Rattle.rules.specs.Data.{pushed, ldl}
+use Rattle.rules.specs.Data.{ldl}
 use Rattle.data.proofs.locals.ldl.Goals as goal
 
 pub returns : goal.returns

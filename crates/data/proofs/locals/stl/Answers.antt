@@ -1,5 +1,5 @@
 use borrow.Author.Rules.{rules}
-use Rattle.rules.specs.Data.{popped, stl}
+use Rattle.rules.specs.Data.{stl}
 use Rattle.data.proofs.locals.stl.Goals as goal
 
 pub returns : goal.returns

@@ -1,5 +1,5 @@
 use borrow.Author.Rules.{rules}
-use Rattle.rules.specs.Data.{popped, save_queue}
+use Rattle.rules.specs.Data.{save_queue}
 use Rattle.data.proofs.queue_words.save_queue.Goals as goal
 
 pub returns : goal.returns

@@ -1,5 +1,5 @@
 use Rattle.std.proofs.Common.{rules}
-use Rattle.rules.specs.Scheduling.{run, slice_out}
+use Rattle.rules.specs.Scheduling.{slice_out}
 use Rattle.processes.proofs.slices.slice_out.Goals as goal
 
 pub returns : goal.returns

@@ -1,5 +1,5 @@
 use Rattle.std.proofs.Common.{rules}
-use Rattle.rules.specs.Scheduling.{run, runp}
+use Rattle.rules.specs.Scheduling.{runp}
 use Rattle.processes.proofs.starting.runp.Goals as goal
 
 pub returns : goal.returns

@@ -1,5 +1,5 @@
 use Rattle.std.proofs.Common.{rules}
-use Rattle.rules.specs.Scheduling.{run, startp}
+use Rattle.rules.specs.Scheduling.{startp}
 use Rattle.processes.proofs.starting.startp.Goals as goal
 
 pub returns : goal.returns
