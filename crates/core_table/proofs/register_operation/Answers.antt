@@ -1,3 +1,4 @@
+use Rattle.std.proofs.Common.{rules}
 use Rattle.rules.proofs.Tests.{look_none}
 use Rattle.rules.specs.Operations.{register_operations}
 use Rattle.core_table.specs.Selected.{selecting, none, register_operation}
@@ -173,4 +174,4 @@ returns-in-89 c = rw (c.in-89.is, c.found-in-89.ensures, c.testhalterr.ensures)
 
 pub returns-in_default : goal.returns-in_default
 unfolding register_operation register_operations
-returns-in_default c = rw (look_none (selecting register_operations) c.args.code none Unit c.in_default.in_default-own.rest, c.none.ensures)
+returns-in_default c = rw (look_none (selecting register_operations) c.args.code none Unit (search rules), c.none.ensures)

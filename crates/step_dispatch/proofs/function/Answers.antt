@@ -61,4 +61,4 @@ returns-in-15 c = (rw c.in-15.is c.operate.ensures.0, search rules)
 
 pub returns-in_default : goal.returns-in_default
 unfolding function functions
-returns-in_default c = (rw (look_none functions c.args.code unlisted_action Unit c.in_default.in_default-own.rest) (c.refuse.ensures.0 _), search rules)
+returns-in_default c = (rw (look_none functions c.args.code unlisted_action Unit (search rules)) (c.refuse.ensures.0 _), search rules)

@@ -168,4 +168,4 @@ returns-in-85 c = (rw c.in-85.is c.stoperr.ensures.0, search rules)
 pub returns-in_default : goal.returns-in_default
 unfolding other_operation other_operations
 returns-in_default c =
-    (rw (look_none other_operations c.args.code unlisted_action Unit c.in_default.in_default-own.rest) (c.refuse.ensures.0 _), search rules)
+    (rw (look_none other_operations c.args.code unlisted_action Unit (search rules)) (c.refuse.ensures.0 _), search rules)
