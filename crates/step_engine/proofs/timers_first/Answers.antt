@@ -10,8 +10,7 @@ use Rattle.rules.specs.Scheduling.{act_on_snp}
 use Rattle.rules.specs.Timers.{timer_ready, handle_timer_request}
 use Rattle.rules.specs.Step as steps
 use Rattle.step_pending.specs.Timer.{first_ready}
-use Rattle.step_engine.proofs.timers_first.Statement.{statement}
-use Rattle.step_engine.proofs.timers_first.Tie as tie
+use Rattle.step_engine.proofs.timers_first.Goals as goal
 
 -- to serve the one of two that is ready is to serve the first that is ready
 by_number : {A : Type 0} (b0 b1 : Bool) (f : ℕ → A) (z : A) →
@@ -26,22 +25,22 @@ module _ (m : List ℕ) (w : Work) where
   unfolding steps.timers_first first_ready
   by_first = by_number (timer_ready 0 w) (timer_ready 1 w) (λ k. act_on_snp m (handle_timer_request m k w)) (steps.instruction_unless_idle m w)
 
-pub timers_first_spec : {M : Type 1} → statement M
-timers_first_spec =
-    tie.close (tie.spec
-    (λ c κs. search rules) (λ c κs. search rules) (λ c κs. search rules)
-    (λ c. (
+pub returns-then-queue-lt2 : goal.returns-then-queue-lt2
+returns-then-queue-lt2 c =
+    (
       rw (
         by_first _ _,
-        ← c.before.before.before.before.before.before.before.ready-timer.ensures,
-        yes_lt c.before.before.before.before.before.before.if1.true,
-        ← c.before.before.before.handle-timer-request.ensures.0,
-      ) c.act-on-snp.ensures.0,
+        ← c.ready_timer-queue.ensures,
+        yes_lt c.if-queue-lt2.true,
+        ← c.handle_timer_request.ensures.0,
+      ) c.act_on_snp.ensures.0,
       search rules,
-    ))
-    (λ c κs. search rules)
-    (λ c. (
-      rw (by_first _ _, ← c.before.before.before.before.ready-timer.ensures, no_lt c.before.before.before.if1.false)
-          c.instruction-unless-idle.ensures.0,
+    )
+
+pub returns : goal.returns
+returns c =
+    (
+      rw (by_first _ _, ← c.ready_timer-queue.ensures, no_lt c.if-queue-lt2.false)
+          c.instruction_unless_idle.ensures.0,
       search rules,
-    )))
+    )

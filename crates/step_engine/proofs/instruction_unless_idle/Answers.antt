@@ -1,0 +1,12 @@
+use borrow.Author.Rules.{rules}
+use Rattle.rules.proofs.Tests.{yes_eq, no_eq}
+use Rattle.rules.specs.Step as steps
+use Rattle.step_engine.proofs.instruction_unless_idle.Goals as goal
+
+pub returns-then-regs-eq0 : goal.returns-then-regs-eq0
+unfolding steps.instruction_unless_idle
+returns-then-regs-eq0 c = (rw (yes_eq c.if-regs-eq0.true) c.instruction.ensures.0, search rules)
+
+pub returns : goal.returns
+unfolding steps.instruction_unless_idle
+returns c = (rw (no_eq c.if-regs-eq0.false) (c.refuse.ensures.0 _), search rules)
