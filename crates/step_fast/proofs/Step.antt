@@ -10,7 +10,7 @@ use lib.ListN.{length, get_or, drop}
 use borrow.Author.Tests.{eqb-true}
 use Rattle.rules.specs.Tests.{if_eq, look}
 use Rattle.rules.specs.Words.{range, minus, at_word, index, selector, byte_of}
-use Rattle.rules.specs.Core.{core, wptr_of, priority_of, goto_snp_bit, error_flag}
+use Rattle.rules.specs.Core.{wptr_of, priority_of, goto_snp_bit, error_flag}
 use Rattle.rules.specs.Stack as stack
 use Rattle.rules.specs.Registers.{status_reg, flags_reg, oreg, channel_reg, link_chans, halted_flag, idle_flag, run_request, ready_request, core_of, with_core}
 use Rattle.rules.specs.Memory.{Store, word, stores}

@@ -1,4 +1,3 @@
-use Prim.Native.Nat.{◌-◌}
 use Rattle.loading.proofs.Loading.{code-none, code-some}
 use Rattle.loading.proofs.code_bad.Goals as goal
 

@@ -1,6 +1,5 @@
 use native.Mathlib.Omega.{arith}
 use mathlib.Core.Path.{refl}
-use Prim.Native.Nat.{◌-◌}
 use Rattle.loading.proofs.Loading.{past_end}
 use Rattle.loading.proofs.code_byte.Goals as goal
 

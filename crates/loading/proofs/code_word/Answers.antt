@@ -1,4 +1,3 @@
-use Prim.Native.Nat.{◌-◌}
 use Rattle.rules.specs.Calls.{code_word}
 use Rattle.loading.proofs.code_word.Goals as goal
 

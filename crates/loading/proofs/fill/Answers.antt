@@ -1,7 +1,6 @@
 use borrow.Author.Rules.{rules}
 use native.Mathlib.Omega.{arith}
 use mathlib.Core.Path.{refl, sym, ◌∙◌}
-use Prim.Native.Nat.{◌-◌}
 use lib.ListN.{length, length-set}
 use Rattle.loading.proofs.Loading.{fresh_turn, fresh-none, fresh_all}
 use Rattle.loading.proofs.fill.Goals as goal

@@ -1,4 +1,3 @@
-use Prim.Native.Nat.{◌-◌}
 use Rattle.loading.proofs.fresh_machine.Goals as goal
 
 pub returns : goal.returns

@@ -1,4 +1,3 @@
-use Prim.Native.Nat.{◌-◌}
 use Rattle.rules.specs.Calls.{fresh_word}
 use Rattle.rules.proofs.Tests.{yes_lt, no_lt}
 use Rattle.loading.proofs.fresh_word.Goals as goal

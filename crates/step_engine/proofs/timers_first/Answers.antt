@@ -26,21 +26,19 @@ module _ (m : List ℕ) (w : Work) where
   by_first = by_number (timer_ready 0 w) (timer_ready 1 w) (λ k. act_on_snp m (handle_timer_request m k w)) (steps.instruction_unless_idle m w)
 
 pub returns-then-queue-lt2 : goal.returns-then-queue-lt2
-returns-then-queue-lt2 c =
-    (
-      rw (
-        by_first _ _,
-        ← c.ready_timer-queue.ensures,
-        yes_lt c.if-queue-lt2.true,
-        ← c.handle_timer_request.ensures.0,
-      ) c.act_on_snp.ensures.0,
-      search rules,
-    )
+returns-then-queue-lt2 c = (
+  rw (
+    by_first _ _,
+    ← c.ready_timer-queue.ensures,
+    yes_lt c.if-queue-lt2.true,
+    ← c.handle_timer_request.ensures.0,
+  ) c.act_on_snp.ensures.0,
+  search rules,
+)
 
 pub returns : goal.returns
-returns c =
-    (
-      rw (by_first _ _, ← c.ready_timer-queue.ensures, no_lt c.if-queue-lt2.false)
-          c.instruction_unless_idle.ensures.0,
-      search rules,
-    )
+returns c = (
+  rw (by_first _ _, ← c.ready_timer-queue.ensures, no_lt c.if-queue-lt2.false)
+      c.instruction_unless_idle.ensures.0,
+  search rules,
+)

@@ -1,4 +1,3 @@
-use Prim.Native.Nat.{◌-◌}
 use Rattle.rules.proofs.Tests.{yes_lt, no_lt}
 use Rattle.step_fast.specs.Fast as fast
 use Rattle.step_fast.proofs.fetch.Goals as goal

@@ -1,5 +1,4 @@
 use mathlib.Core.Path.{sym, ◌∙◌}
-use Prim.Native.Nat.{◌-◌}
 use Rattle.rules.specs.Calls.{numbered}
 use Rattle.journal.proofs.CommitOrRefuse.{clear-refused, clear-done}
 use Rattle.t414.proofs.clear.Goals as goal

@@ -1,9 +1,6 @@
 use borrow.Author.Rules.{rules}
 use native.Mathlib.Omega.{arith}
-use mathlib.Core.Path.{◌≡◌, sym, ap, ◌∙◌}
-use Prim.Native.Nat.{◌-◌}
-use lib.ListN.{length}
-use Rattle.rules.specs.Registers.{registers}
+use mathlib.Core.Path.{sym, ap, ◌∙◌}
 use Rattle.rules.specs.Links as links
 use Rattle.rules.specs.Calls.{give, not_input}
 use Rattle.journal.proofs.Refusing.{number-known, stopped, passed, channel_good, input_good}

@@ -1,9 +1,7 @@
 use borrow.Author.Rules.{rules}
 use native.Mathlib.Omega.{arith}
-use mathlib.Core.Path.{◌≡◌, refl, sym, ◌∙◌}
-use lib.ListN.{length}
+use mathlib.Core.Path.{refl, sym, ◌∙◌}
 use mathlib.Core.Bool.{false}
-use Rattle.rules.specs.Registers.{registers}
 use Rattle.rules.specs.Work.{begin}
 use Rattle.rules.specs.Step as steps
 use Rattle.rules.specs.Journal.{record_of}

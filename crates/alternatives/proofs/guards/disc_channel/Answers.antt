@@ -9,12 +9,11 @@ returns-then-number-lt-LINK_CHANS c = (rw (← c.index_of-number.ensures, yes_lt
 
 pub returns : goal.returns
 unfolding disc_channel
-returns c =
-    (
-      rw (
-        ← c.index_of-number.ensures,
-        no_lt c.if-number-lt-LINK_CHANS.false,
-        ← c.r_index_word.ensures.0,
-      ) c.disc_soft.ensures.0,
-      search rules,
-    )
+returns c = (
+  rw (
+    ← c.index_of-number.ensures,
+    no_lt c.if-number-lt-LINK_CHANS.false,
+    ← c.r_index_word.ensures.0,
+  ) c.disc_soft.ensures.0,
+  search rules,
+)

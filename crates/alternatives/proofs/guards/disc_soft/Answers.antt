@@ -14,9 +14,8 @@ returns-then-regs c = (rw (no_eq c.if-regs-eq-NOT_PROCESS.false, yes_eq c.if-reg
 
 pub returns : goal.returns
 unfolding disc_soft put
-returns c =
-    (
-      rw (no_eq c.if-regs-eq-NOT_PROCESS.false, no_eq c.if-regs.false)
-          c.is_this_selected_process.ensures.0,
-      search rules,
-    )
+returns c = (
+  rw (no_eq c.if-regs-eq-NOT_PROCESS.false, no_eq c.if-regs.false)
+      c.is_this_selected_process.ensures.0,
+  search rules,
+)

@@ -9,14 +9,13 @@ returns-then-number-lt-LINK_CHANS c = (rw (← c.index_of-number.ensures, yes_lt
 
 pub returns : goal.returns
 unfolding enbc_channel
-returns c =
-    (
-      rw (
-        ← c.index_of-number.ensures,
-        no_lt c.if-number-lt-LINK_CHANS.false,
-        ← c.at_word-a.ensures,
-        ← c.load_word-content.ensures.0,
-        ← c.load_word-content.ensures.1,
-      ) c.enbc_soft.ensures.0,
-      search rules,
-    )
+returns c = (
+  rw (
+    ← c.index_of-number.ensures,
+    no_lt c.if-number-lt-LINK_CHANS.false,
+    ← c.at_word-a.ensures,
+    ← c.load_word-content.ensures.0,
+    ← c.load_word-content.ensures.1,
+  ) c.enbc_soft.ensures.0,
+  search rules,
+)

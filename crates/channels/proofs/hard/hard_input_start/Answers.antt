@@ -9,15 +9,14 @@ returns-then-c-lt4 c = (rw (yes_lt c.if-c-lt4.true, ← c.hard_start.ensures.0) 
 
 pub returns-then-regs-k-eq0 : goal.returns-then-regs-k-eq0
 unfolding hard_input_start
-returns-then-regs-k-eq0 c =
-    (
-      rw (
-        no_lt c.if-c-lt4.false,
-        yes_eq c.if-regs-k-eq0.true,
-        ← c.hard_start-then-regs-k-eq0.ensures.0,
-      ) (c.goto_snp-then-regs-k-eq0.ensures _),
-      search rules,
-    )
+returns-then-regs-k-eq0 c = (
+  rw (
+    no_lt c.if-c-lt4.false,
+    yes_eq c.if-regs-k-eq0.true,
+    ← c.hard_start-then-regs-k-eq0.ensures.0,
+  ) (c.goto_snp-then-regs-k-eq0.ensures _),
+  search rules,
+)
 
 pub returns : goal.returns
 unfolding hard_input_start

@@ -10,14 +10,13 @@ returns-then-number-lt-LINK_CHANS c =
 
 pub returns : goal.returns
 unfolding output
-returns c =
-    (
-      rw (
-        ← c.index_of-number.ensures,
-        no_lt c.if-number-lt-LINK_CHANS.false,
-        ← c.at_word-a.ensures,
-        ← c.load_word-descriptor.ensures.0,
-        ← c.load_word-descriptor.ensures.1,
-      ) c.soft_output.ensures.0,
-      search rules,
-    )
+returns c = (
+  rw (
+    ← c.index_of-number.ensures,
+    no_lt c.if-number-lt-LINK_CHANS.false,
+    ← c.at_word-a.ensures,
+    ← c.load_word-descriptor.ensures.0,
+    ← c.load_word-descriptor.ensures.1,
+  ) c.soft_output.ensures.0,
+  search rules,
+)

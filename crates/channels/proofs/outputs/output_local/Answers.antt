@@ -6,7 +6,7 @@ use Rattle.channels.proofs.outputs.output_local.Goals as goal
 pub returns : goal.returns
 unfolding output_local put
 returns c = (
-      rw (← c.w_index_word.ensures.0)
-          c.output.ensures.0,
-      search rules,
-    )
+  rw (← c.w_index_word.ensures.0)
+      c.output.ensures.0,
+  search rules,
+)

@@ -14,18 +14,16 @@ returns-then-target-eq-WAITING c =
 
 pub returns-then-target-eq-READY : goal.returns-then-target-eq-READY
 unfolding output_to
-returns-then-target-eq-READY c =
-    (
-      rw (no_eq c.if-target-eq-ENABLING.false, no_eq c.if-target-eq-WAITING.false, yes_eq c.if-target-eq-READY.true)
-          c.soft_wait.ensures.0,
-      search rules,
-    )
+returns-then-target-eq-READY c = (
+  rw (no_eq c.if-target-eq-ENABLING.false, no_eq c.if-target-eq-WAITING.false, yes_eq c.if-target-eq-READY.true)
+      c.soft_wait.ensures.0,
+  search rules,
+)
 
 pub returns : goal.returns
 unfolding output_to
-returns c =
-    (
-      rw (no_eq c.if-target-eq-ENABLING.false, no_eq c.if-target-eq-WAITING.false, no_eq c.if-target-eq-READY.false)
-          c.output_message.ensures.0,
-      search rules,
-    )
+returns c = (
+  rw (no_eq c.if-target-eq-ENABLING.false, no_eq c.if-target-eq-WAITING.false, no_eq c.if-target-eq-READY.false)
+      c.output_message.ensures.0,
+  search rules,
+)

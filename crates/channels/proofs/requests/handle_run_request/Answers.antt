@@ -4,9 +4,8 @@ use Rattle.channels.proofs.requests.handle_run_request.Goals as goal
 
 pub returns : goal.returns
 unfolding handle_run_request
-returns c =
-    (
-      rw (← c.at_word-a.ensures, ← c.load_word-content.ensures.0, ← c.load_word-content.ensures.1)
-          c.run_content.ensures.0,
-      search rules,
-    )
+returns c = (
+  rw (← c.at_word-a.ensures, ← c.load_word-content.ensures.0, ← c.load_word-content.ensures.1)
+      c.run_content.ensures.0,
+  search rules,
+)

@@ -13,18 +13,16 @@ returns-then-status-eq-READY c = (rw (no_eq c.if-status-eq-ENABLING.false, yes_e
 
 pub returns-then-status-eq-WAITING : goal.returns-then-status-eq-WAITING
 unfolding ready_status
-returns-then-status-eq-WAITING c =
-    (
-      rw (no_eq c.if-status-eq-ENABLING.false, no_eq c.if-status-eq-READY.false, yes_eq c.if-status-eq-WAITING.true)
-          c.ready_waiting.ensures.0,
-      search rules,
-    )
+returns-then-status-eq-WAITING c = (
+  rw (no_eq c.if-status-eq-ENABLING.false, no_eq c.if-status-eq-READY.false, yes_eq c.if-status-eq-WAITING.true)
+      c.ready_waiting.ensures.0,
+  search rules,
+)
 
 pub returns : goal.returns
 unfolding ready_status
-returns c =
-    (
-      rw (no_eq c.if-status-eq-ENABLING.false, no_eq c.if-status-eq-READY.false, no_eq c.if-status-eq-WAITING.false)
-          (c.refuse.ensures.0 _),
-      search rules,
-    )
+returns c = (
+  rw (no_eq c.if-status-eq-ENABLING.false, no_eq c.if-status-eq-READY.false, no_eq c.if-status-eq-WAITING.false)
+      (c.refuse.ensures.0 _),
+  search rules,
+)

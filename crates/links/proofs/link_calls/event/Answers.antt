@@ -12,22 +12,20 @@ returns-then-moving c =
 
 pub returns-then-regs-eq0 : goal.returns-then-regs-eq0
 unfolding event
-returns-then-regs-eq0 c =
-    (
-      rw (
-        moving_no _ _ (sym (c.moving.ensures c.args.log.now) ∙ c.if-moving.false),
-        yes_eq c.if-regs-eq0.true,
-      ) (c.event_holds.ensures _),
-      search rules,
-    )
+returns-then-regs-eq0 c = (
+  rw (
+    moving_no _ _ (sym (c.moving.ensures c.args.log.now) ∙ c.if-moving.false),
+    yes_eq c.if-regs-eq0.true,
+  ) (c.event_holds.ensures _),
+  search rules,
+)
 
 pub returns : goal.returns
 unfolding event
-returns c =
-    (
-      rw (
-        moving_no _ _ (sym (c.moving.ensures c.args.log.now) ∙ c.if-moving.false),
-        no_eq c.if-regs-eq0.false,
-      ) (c.refuse.ensures.0 _),
-      search rules,
-    )
+returns c = (
+  rw (
+    moving_no _ _ (sym (c.moving.ensures c.args.log.now) ∙ c.if-moving.false),
+    no_eq c.if-regs-eq0.false,
+  ) (c.refuse.ensures.0 _),
+  search rules,
+)

@@ -12,22 +12,20 @@ returns-then-moving c =
 
 pub returns-then-regs-k-eq0 : goal.returns-then-regs-k-eq0
 unfolding give
-returns-then-regs-k-eq0 c =
-    (
-      rw (
-        moving_no _ _ (sym (c.moving.ensures c.args.log.now) ∙ c.if-moving.false),
-        yes_eq c.if-regs-k-eq0.true,
-      ) (c.hold.ensures _),
-      search rules,
-    )
+returns-then-regs-k-eq0 c = (
+  rw (
+    moving_no _ _ (sym (c.moving.ensures c.args.log.now) ∙ c.if-moving.false),
+    yes_eq c.if-regs-k-eq0.true,
+  ) (c.hold.ensures _),
+  search rules,
+)
 
 pub returns : goal.returns
 unfolding give
-returns c =
-    (
-      rw (
-        moving_no _ _ (sym (c.moving.ensures c.args.log.now) ∙ c.if-moving.false),
-        no_eq c.if-regs-k-eq0.false,
-      ) (c.refuse.ensures.0 _),
-      search rules,
-    )
+returns c = (
+  rw (
+    moving_no _ _ (sym (c.moving.ensures c.args.log.now) ∙ c.if-moving.false),
+    no_eq c.if-regs-k-eq0.false,
+  ) (c.refuse.ensures.0 _),
+  search rules,
+)

@@ -1,4 +1,3 @@
-use Prim.Native.Nat.{◌-◌}
 use Rattle.rules.proofs.Tests.{look_none}
 use Rattle.step_fast.specs.Fast as fast
 use Rattle.step_fast.proofs.functions.decode.Goals as goal

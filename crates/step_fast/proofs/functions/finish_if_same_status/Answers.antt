@@ -1,4 +1,3 @@
-use Prim.Native.Nat.{◌-◌}
 use Rattle.rules.proofs.Tests.{yes_eq, no_eq}
 use Rattle.step_fast.specs.Fast as fast
 use Rattle.step_fast.proofs.functions.finish_if_same_status.Goals as goal

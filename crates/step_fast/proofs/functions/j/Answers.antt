@@ -1,4 +1,3 @@
-use Prim.Native.Nat.{◌-◌}
 use Rattle.step_fast.specs.Fast as fast
 use Rattle.step_fast.proofs.functions.j.Goals as goal
 
