@@ -39,9 +39,8 @@ pub returns-then-common : goal.returns-then-common
 unfolding step
 returns-then-common c =
     let a = c.args in
-    let Q = sym c.if-nothing_pending.true ∙ c.nothing_pending.ensures in
     c.commit_common.ensures
-    ∙ common-step-is a.m a.mem.now a.journal.now c.common_step-t.result (search rules) Q c.common_step-t.ensures c.if-common.true
+    ∙ common-step-is a.m a.mem.now a.journal.now c.common_step-t.result (search rules) (cc) c.common_step-t.ensures c.if-common.true
     ∙ passed false a.m a.mem.now a.journal.now (sym c.first_bad-number.ensures ∙ c.if-number-ne0.false) _
 
 pub plan_and_commit-committed-requires : goal.plan_and_commit-committed-requires
