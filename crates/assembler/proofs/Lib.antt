@@ -1,4 +1,5 @@
 mod Stores
+mod Bytes
 mod Rows
 mod Digits
 mod Text

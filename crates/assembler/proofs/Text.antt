@@ -104,6 +104,12 @@ pub separator_last : (code : List ℕ) (k : ℕ) → length code ≤ k → newli
 unfolding separator
 separator_last code k h = rw (drop_of_length-le code {i = k} h)
 
+pub hex-stored : (text : List ℕ) (at a b c : ℕ) → set (set (set text at a) (at + 1) b) (at + 2) c ≡ sets text at (a ∷ b ∷ c ∷ [])
+hex-stored text at a b c =
+    let e : at + 1 ≡ suc at = omega arith in
+    let f : at + 2 ≡ suc (suc at) = omega arith in
+    rw (e, f)
+
 -- three characters a byte
 pub bytes-length : (bytes : List ℕ) → length (bytes_line bytes) ≡ 3 * length bytes
 unfolding bytes_line
