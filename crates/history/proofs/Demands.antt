@@ -1,4 +1,4 @@
--- The three demands (01, What the contracts have to say) on the contracts of the eight public functions (specs/Contracts.antt), on one page. The
+-- The three demands (01, What the contracts have to say) on the contracts of the eight public functions (specs/CallContracts.antt), on one page. The
 -- proofs are in the files imported here.
 --
 -- 1. TOTAL. Every call, from any input, gives one of 01's answers; a refused call changes nothing.

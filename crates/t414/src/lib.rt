@@ -1,6 +1,6 @@
 // The eight public calls of the T414 stepper (01, The part of the T414 that we build; rules/specs/Calls.antt): from any machine,
 // memory, journal and arguments to a reply. Each call makes its checks (sizes, channel, bounds of the journal), then works, then
-// commits. A refused call changes nothing. The contracts are in history/specs/Contracts.antt.
+// commits. A refused call changes nothing. The contracts are in history/specs/CallContracts.antt.
 #![tactic(auto)]
 
 ghost use Rattle.history.specs.CallContracts.{FreshContract, StepContract, TickContract, TakeContract, GiveContract, EventContract, UndoContract, ClearContract};
