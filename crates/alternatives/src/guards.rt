@@ -1,162 +1,166 @@
 // Channel guards: enable channel and disable channel (000 1.11).
-ghost use Rattle.std.specs.Prelude.{◌≡◌, ◌<◌};
-ghost use Rattle.rules.specs.Registers as registers;
+ghost use Rattle.std.specs.Prelude.{◌≡◌};
 ghost use Rattle.rules.specs.Channels as channels;
-ghost use Rattle.plan.specs.View.{view, Room, Grown};
+ghost use Rattle.plan.specs.View.{work_of, Room, Grown};
 
 use crate::waits::state_ready;
 use memory::loads::load_word;
 use memory::store::{r_index_word, w_index_word};
-use plan::{LOG, lower, raise};
-use rules::REGISTERS;
+use plan::channel::Channel;
+use plan::{Plan, lower, raise};
 use rules::names::*;
 use scheduling::selected::{drop_b, is_this_selected_process};
 use words::{at_word, index_of};
 
 // Stores Wdesc in the channel word.
-fn claim_channel(regs: &[u32; REGISTERS], log: &mut [u32; LOG], mem: &[u32])
-    requires { Room 1 log.old }
-    ensures { (view regs.now log.new ≡ channels.claim_channel mem.now (view regs.now log.old)) × Grown 1 log.old log.new }
+// Kept, point 2: one store of its own definition, as store_count of processes; a function over both would be that store itself (d).
+#[tactic(auto, unfolding(rules::specs::Channels::claim_channel))]
+fn claim_channel(plan: &mut Plan, mem: &[u32])
+    requires { Room 1 plan.old.log }
+    ensures { (work_of plan.new ≡ channels.claim_channel mem.now (work_of plan.old)) × Grown 1 plan.old.log plan.new.log × (plan.new.regs ≡ plan.old.regs) }
 {
-    w_index_word(log, mem, regs[BREG], 0, regs[WDESC_REG]);
+    w_index_word(&mut plan.log, mem, plan.regs[BREG], 0, plan.regs[WDESC_REG]);
 }
 
 // Claims a free channel; a partner in the channel word makes the alternative ready.
-fn enbc_soft(regs: &[u32; REGISTERS], log: &mut [u32; LOG], mem: &[u32], content: u32)
-    requires { Room 1 log.old }
-    ensures { (view regs.now log.new ≡ channels.enbc_soft mem.now content (view regs.now log.old)) × Grown 1 log.old log.new }
+#[tactic(auto, using(plan::proofs::Decided::tests), unfolding(rules::specs::Channels::enbc_soft))]
+fn enbc_soft(plan: &mut Plan, mem: &[u32], content: u32)
+    requires { Room 1 plan.old.log }
+    ensures { (work_of plan.new ≡ channels.enbc_soft mem.now content (work_of plan.old)) × Grown 1 plan.old.log plan.new.log × (plan.new.regs ≡ plan.old.regs) }
 {
     if content == NOT_PROCESS {
-        claim_channel(regs, log, mem);
-        return;
+        claim_channel(plan, mem);
+    } else if content != plan.regs[WDESC_REG] {
+        state_ready(plan, mem);
     }
-    if content == regs[WDESC_REG] {
-        return;
-    }
-    state_ready(regs, log, mem);
 }
 
 // Makes the alternative ready where a byte is held, else sets enabled and claims the channel (DECISIONS 30).
-fn enbc_hard(regs: &mut [u32; REGISTERS], log: &mut [u32; LOG], mem: &[u32], c: usize)
-    requires { (c < registers.link_chans) × Room 1 log.old }
-    ensures { (view regs.new log.new ≡ channels.enbc_hard mem.now c (view regs.old log.old)) × Grown 1 log.old log.new }
+#[tactic(auto, using(plan::proofs::Decided::tests), unfolding(rules::specs::Channels::enbc_hard))]
+fn enbc_hard(plan: &mut Plan, mem: &[u32], c: Channel)
+    requires { Room 1 plan.old.log }
+    ensures { (work_of plan.new ≡ channels.enbc_hard mem.now c (work_of plan.old)) × Grown 1 plan.old.log plan.new.log }
 {
-    let k = CHANNEL_REG + 3 * c;
-    if regs[k] & HELD_BIT == 0 {
-        raise(regs, k, ENABLED_BIT);
-        claim_channel(regs, log, mem);
-        return;
+    if plan.regs[c.flags()] & HELD_BIT == 0 {
+        raise(&mut plan.regs, c.flags(), ENABLED_BIT);
+        claim_channel(plan, mem);
+    } else {
+        state_ready(plan, mem);
     }
-    state_ready(regs, log, mem);
 }
 
 // Decides by the channel number between a hard and a soft channel.
-fn enbc_channel(regs: &mut [u32; REGISTERS], log: &mut [u32; LOG], mem: &[u32])
-    requires { Room 1 log.old }
-    ensures { (view regs.new log.new ≡ channels.enbc_channel mem.now (view regs.old log.old)) × Grown 1 log.old log.new }
+#[tactic(auto, using(plan::proofs::Decided::tests), unfolding(rules::specs::Channels::enbc_channel))]
+fn enbc_channel(plan: &mut Plan, mem: &[u32])
+    requires { Room 1 plan.old.log }
+    ensures { (work_of plan.new ≡ channels.enbc_channel mem.now (work_of plan.old)) × Grown 1 plan.old.log plan.new.log }
 {
-    let number = index_of(regs[BREG]);
-    if number < LINK_CHANS {
-        enbc_hard(regs, log, mem, number as usize);
-        return;
+    match Channel::new(index_of(plan.regs[BREG])) {
+        Some(c) => enbc_hard(plan, mem, c),
+        None => {
+            let a = at_word(plan.regs[BREG], 0);
+            let content = load_word(&mut plan.log, mem, a);
+            enbc_soft(plan, mem, content);
+        }
     }
-    let a = at_word(regs[BREG], 0);
-    let content = load_word(log, mem, a);
-    enbc_soft(regs, log, mem, content);
 }
 
 // Enables the channel where condition A is not false (DECISIONS 13).
-fn enbc_guard(regs: &mut [u32; REGISTERS], log: &mut [u32; LOG], mem: &[u32])
-    requires { Room 1 log.old }
-    ensures { (view regs.new log.new ≡ channels.enbc_guard mem.now (view regs.old log.old)) × Grown 1 log.old log.new }
+#[tactic(auto, using(plan::proofs::Decided::tests), unfolding(rules::specs::Channels::enbc_guard))]
+fn enbc_guard(plan: &mut Plan, mem: &[u32])
+    requires { Room 1 plan.old.log }
+    ensures { (work_of plan.new ≡ channels.enbc_guard mem.now (work_of plan.old)) × Grown 1 plan.old.log plan.new.log }
 {
-    if regs[AREG] == MACHINE_FALSE {
-        return;
+    if plan.regs[AREG] != MACHINE_FALSE {
+        enbc_channel(plan, mem);
     }
-    enbc_channel(regs, log, mem);
 }
 
 // Enables a guard with condition A on channel B (000 1.11, enable channel).
-pub fn enbc(regs: &mut [u32; REGISTERS], log: &mut [u32; LOG], mem: &[u32])
-    requires { Room 1 log.old }
-    ensures { (view regs.new log.new ≡ channels.enbc mem.now (view regs.old log.old)) × Grown 1 log.old log.new }
+#[tactic(auto, unfolding(rules::specs::Channels::enbc))]
+pub fn enbc(plan: &mut Plan, mem: &[u32])
+    requires { Room 1 plan.old.log }
+    ensures { (work_of plan.new ≡ channels.enbc mem.now (work_of plan.old)) × Grown 1 plan.old.log plan.new.log }
 {
-    enbc_guard(regs, log, mem);
-    drop_b(regs);
+    enbc_guard(plan, mem);
+    drop_b(&mut plan.regs);
 }
 
 // Frees the channel that this process claimed, and answers false.
-fn disclaim(regs: &mut [u32; REGISTERS], log: &mut [u32; LOG], mem: &[u32])
-    requires { Room 1 log.old }
-    ensures { (view regs.new log.new ≡ channels.disclaim mem.now (view regs.old log.old)) × Grown 1 log.old log.new }
+#[tactic(auto, unfolding(rules::specs::Channels::disclaim, rules::specs::Work::put))]
+fn disclaim(plan: &mut Plan, mem: &[u32])
+    requires { Room 1 plan.old.log }
+    ensures { (work_of plan.new ≡ channels.disclaim mem.now (work_of plan.old)) × Grown 1 plan.old.log plan.new.log }
 {
-    w_index_word(log, mem, regs[CREG], 0, NOT_PROCESS);
-    regs[AREG] = MACHINE_FALSE;
+    w_index_word(&mut plan.log, mem, plan.regs[CREG], 0, NOT_PROCESS);
+    plan.regs[AREG] = MACHINE_FALSE;
 }
 
 // Answers false on a free channel, frees one that this process claimed, and selects the guard where a partner waits.
-fn disc_soft(regs: &mut [u32; REGISTERS], log: &mut [u32; LOG], mem: &[u32])
-    requires { Room 1 log.old }
-    ensures { (view regs.new log.new ≡ channels.disc_soft mem.now (view regs.old log.old)) × Grown 1 log.old log.new }
+#[tactic(auto, using(plan::proofs::Decided::tests), unfolding(rules::specs::Channels::disc_soft, rules::specs::Work::put))]
+fn disc_soft(plan: &mut Plan, mem: &[u32])
+    requires { Room 1 plan.old.log }
+    ensures { (work_of plan.new ≡ channels.disc_soft mem.now (work_of plan.old)) × Grown 1 plan.old.log plan.new.log }
 {
-    if regs[BREG] == NOT_PROCESS {
-        regs[AREG] = MACHINE_FALSE;
-        return;
+    if plan.regs[BREG] == NOT_PROCESS {
+        plan.regs[AREG] = MACHINE_FALSE;
+    } else if plan.regs[BREG] == plan.regs[WDESC_REG] {
+        disclaim(plan, mem);
+    } else {
+        is_this_selected_process(plan, mem);
     }
-    if regs[BREG] == regs[WDESC_REG] {
-        disclaim(regs, log, mem);
-        return;
-    }
-    is_this_selected_process(regs, log, mem);
 }
 
 // Selects the guard exactly where a byte is held, else answers false (DECISIONS 30).
-fn disc_answer(regs: &mut [u32; REGISTERS], log: &mut [u32; LOG], mem: &[u32], c: usize)
-    requires { (c < registers.link_chans) × Room 1 log.old }
-    ensures { (view regs.new log.new ≡ channels.disc_answer mem.now c (view regs.old log.old)) × Grown 1 log.old log.new }
+#[tactic(auto, using(plan::proofs::Decided::tests), unfolding(rules::specs::Channels::disc_answer, rules::specs::Work::put))]
+fn disc_answer(plan: &mut Plan, mem: &[u32], c: Channel)
+    requires { Room 1 plan.old.log }
+    ensures { (work_of plan.new ≡ channels.disc_answer mem.now c (work_of plan.old)) × Grown 1 plan.old.log plan.new.log }
 {
-    let k = CHANNEL_REG + 3 * c;
-    if regs[k] & HELD_BIT == 0 {
-        regs[AREG] = MACHINE_FALSE;
-        return;
+    if plan.regs[c.flags()] & HELD_BIT == 0 {
+        plan.regs[AREG] = MACHINE_FALSE;
+    } else {
+        is_this_selected_process(plan, mem);
     }
-    is_this_selected_process(regs, log, mem);
 }
 
 // Frees the channel, and clears enabled and the ready request (DECISIONS 30).
-fn disc_hard(regs: &mut [u32; REGISTERS], log: &mut [u32; LOG], mem: &[u32], c: usize)
-    requires { (c < registers.link_chans) × Room 2 log.old }
-    ensures { (view regs.new log.new ≡ channels.disc_hard mem.now c (view regs.old log.old)) × Grown 2 log.old log.new }
+#[tactic(auto, unfolding(rules::specs::Channels::disc_hard))]
+fn disc_hard(plan: &mut Plan, mem: &[u32], c: Channel)
+    requires { Room 2 plan.old.log }
+    ensures { (work_of plan.new ≡ channels.disc_hard mem.now c (work_of plan.old)) × Grown 2 plan.old.log plan.new.log }
 {
-    let k = CHANNEL_REG + 3 * c;
-    w_index_word(log, mem, regs[CREG], 0, NOT_PROCESS);
-    lower(regs, k, ENABLED_BIT + READY_REQUEST);
-    disc_answer(regs, log, mem, c);
+    w_index_word(&mut plan.log, mem, plan.regs[CREG], 0, NOT_PROCESS);
+    lower(&mut plan.regs, c.flags(), ENABLED_BIT + READY_REQUEST);
+    disc_answer(plan, mem, c);
 }
 
 // Decides by the channel number between a hard and a soft channel; on a soft one B is left with the channel word (DECISIONS 11).
-fn disc_channel(regs: &mut [u32; REGISTERS], log: &mut [u32; LOG], mem: &[u32])
-    requires { Room 2 log.old }
-    ensures { (view regs.new log.new ≡ channels.disc_channel mem.now (view regs.old log.old)) × Grown 2 log.old log.new }
+#[tactic(auto, using(plan::proofs::Decided::tests), unfolding(rules::specs::Channels::disc_channel))]
+fn disc_channel(plan: &mut Plan, mem: &[u32])
+    requires { Room 2 plan.old.log }
+    ensures { (work_of plan.new ≡ channels.disc_channel mem.now (work_of plan.old)) × Grown 2 plan.old.log plan.new.log }
 {
-    let number = index_of(regs[CREG]);
-    if number < LINK_CHANS {
-        disc_hard(regs, log, mem, number as usize);
-        return;
+    let channel = plan.regs[CREG];
+    match Channel::new(index_of(channel)) {
+        Some(c) => disc_hard(plan, mem, c),
+        None => {
+            r_index_word(plan, mem, channel, 0, BREG);
+            disc_soft(plan, mem);
+        }
     }
-    let c = regs[CREG];
-    r_index_word(regs, log, mem, c, 0, BREG);
-    disc_soft(regs, log, mem);
 }
 
 // Disables a guard with offset A and condition B on channel C (000 1.11, disable channel).
-pub fn disc(regs: &mut [u32; REGISTERS], log: &mut [u32; LOG], mem: &[u32])
-    requires { Room 2 log.old }
-    ensures { (view regs.new log.new ≡ channels.disc mem.now (view regs.old log.old)) × Grown 2 log.old log.new }
+// Kept, point 2: diss_guard goes on in another way; each is a test of its own definition (d).
+#[tactic(auto, using(plan::proofs::Decided::tests), unfolding(rules::specs::Channels::disc, rules::specs::Work::put))]
+pub fn disc(plan: &mut Plan, mem: &[u32])
+    requires { Room 2 plan.old.log }
+    ensures { (work_of plan.new ≡ channels.disc mem.now (work_of plan.old)) × Grown 2 plan.old.log plan.new.log }
 {
-    if regs[BREG] == MACHINE_FALSE {
-        regs[AREG] = MACHINE_FALSE;
-        return;
+    if plan.regs[BREG] == MACHINE_FALSE {
+        plan.regs[AREG] = MACHINE_FALSE;
+    } else {
+        disc_channel(plan, mem);
     }
-    disc_channel(regs, log, mem);
 }

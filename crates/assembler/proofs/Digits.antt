@@ -1,14 +1,12 @@
 -- Decimal digits: all but the last, then the last. Ten places are enough for every word.
-use mathlib.Core.Path.{◌≡◌, refl, sym, ap, ◌∙◌}
+use mathlib.Core.Path.{◌≡◌, refl, ap, ◌∙◌}
 use mathlib.Core.List.{List, [], ◌∷◌, ◌++◌}
 use Prim.Native.Nat.{ℕ, zero, suc, ◌+◌, ◌*◌, ◌/◌, ◌%◌, ◌^◌, ◌≤◌, ◌<◌}
 use native.Mathlib.Omega.{arith}
-use lib.ListN.{length, set, length-append}
-use lib.Seq.{sets}
+use lib.ListN.{length, length-append}
 use Rattle.rules.specs.Tests.{if_lt}
 use Rattle.rules.proofs.Tests.{yes_lt, no_lt, cases_lt}
 use Rattle.assembly.specs.Listing.{digits}
-use Rattle.laws.proofs.Stores.{sets-append}
 
 -- the last digit
 abbrev pub last : ℕ → ℕ
@@ -47,18 +45,3 @@ digits-few (suc n) x =
 
 pub more-length : (x : ℕ) → 10 ≤ x → x < 2 ^ 32 → length (digits 10 x) ≡ length (digits 10 (x / 10)) + 1
 more-length x h l = rw (digits_more x h l) (length-append (digits 10 (x / 10)) (last x ∷ []))
-
--- the last digit is stored behind the others
-pub more-stored : (x at end : ℕ) (text text' : List ℕ) → 10 ≤ x → x < 2 ^ 32
-    → (end ≡ at + length (digits 10 (x / 10))) × (text' ≡ sets text at (digits 10 (x / 10)))
-    → (end + 1 ≡ at + length (digits 10 x)) × (set text' end (last x) ≡ sets text at (digits 10 x))
-more-stored x at end text text' h l e = (
-  omega (arith, more-length x h l, e.0),
-  rw (digits_more x h l, e.0, e.1) (sym (sets-append text at (digits 10 (x / 10)) (last x ∷ []))),
-)
-
-pub one-length : (x : ℕ) → x < 10 → length (digits 10 x) ≡ 1
-one-length x h = rw (digits-one x h)
-
-pub one-stored : (x at : ℕ) (text : List ℕ) → x < 10 → (at + 1 ≡ at + length (digits 10 x)) × (set text at (last x) ≡ sets text at (digits 10 x))
-one-stored x at text h = rw (digits-one x h) (refl, refl)

@@ -1,6 +1,5 @@
 mod Stores
-mod Bytes
-mod Rows
+mod Tables
 mod Digits
 mod Text
 mod Rest

@@ -16,6 +16,7 @@ fn instruction(function: u32, operand: u32) -> u8
 }
 
 // Returns the prefix that comes last before the final byte: pfix, of a negative operand nfix.
+#[tactic(auto, using(rules::proofs::Tests::yes_lt, rules::proofs::Tests::no_lt), unfolding(assembly::specs::Chain::prefix_of))]
 fn prefix_of(operand: u32) -> u32
     ensures { (result ≡ rule.prefix_of operand) × (result < 16) }
 {
@@ -23,6 +24,7 @@ fn prefix_of(operand: u32) -> u32
 }
 
 // Returns what is prefixed: the operand's upper part, of a negative operand the complement of it.
+#[tactic(auto, using(rules::proofs::Tests::yes_lt, rules::proofs::Tests::no_lt), unfolding(assembly::specs::Chain::upper_of))]
 fn upper_of(operand: u32) -> u32
     ensures { result ≡ rule.upper_of operand }
 {
@@ -44,6 +46,7 @@ fn put(chain: &mut [u8], at: usize, byte: u8)
 
 // Writes a chain and returns its length; bytes past the end of the slice are only counted. It calls itself on the operand's upper part, which
 // falls.
+// Kept, point 5: the public assemble takes any u32 as a function, and tests it; so the bound is a clause here (a).
 pub(crate) fn write(function: u32, operand: u32, chain: &mut [u8]) -> usize
     requires { function < 16 }
     ensures { (result ≡ length (rule.chain function operand)) × (chain.new ≡ sets chain.old 0 (rule.chain function operand)) }

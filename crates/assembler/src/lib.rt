@@ -3,81 +3,50 @@
 #![tactic(auto)]
 
 mod chains; // the prefix writer
+mod line; // a line that grows at its end
 mod lines; // the lines of the listing
-mod names; // the table of names
-mod passes; // the passes over code that list it
+mod names; // the names of functions and operations
+mod passes; // the pass over code that lists it
 
-ghost use Rattle.std.specs.Prelude.{◌≡◌, ◌≤◌, length, take};
-ghost use Rattle.std.proofs.lemmas.List.Edits.{sets};
+ghost use Rattle.std.specs.Prelude.{◌≡◌};
 ghost use Rattle.assembly.specs.Calls.{function_bad, AssembleContract, ListContract};
 
-use assembly::{Verdict, Written};
-use chains::write;
+use assembly::Refusal;
+use chains::{NFIX, PFIX};
 
 // Tests for a function number that is no function with an operand: above 15, pfix or nfix.
+#[tactic(auto, unfolding(assembly::specs::Calls::function_bad))]
 fn function_bad(function: u32) -> bool
     ensures { result ≡ function_bad function }
 {
-    if function > 15 {
-        return true;
-    }
-    if function == chains::PFIX {
-        return true;
-    }
-    function == chains::NFIX
-}
-
-// Makes the reply of a refusal: nothing is written.
-fn refused(verdict: Verdict) -> Written
-    ensures { result ≡ record { verdict = verdict; size = 0 } }
-{
-    Written { verdict, size: 0 }
-}
-
-// Copies the first n bytes of a chain to the start of the output.
-fn copy(chain: &[u8], n: usize, out: &mut [u8])
-    requires { (n ≤ length chain.now) × (n ≤ length out.old) }
-    ensures { out.new ≡ sets out.old 0 (take n chain.now) }
-{
-    let mut i = 0;
-    while i < n {
-        out[i] = chain[i];
-        i += 1;
-    }
+    function > 15 || function == PFIX || function == NFIX
 }
 
 // Writes the shortest chain of a function and an operand.
-pub fn assemble(function: u32, operand: u32, out: &mut [u8]) -> Written
+pub fn assemble(function: u32, operand: u32, out: &mut [u8]) -> Result<usize, Refusal>
     ensures { AssembleContract function operand out.old result out.new }
 {
     if function_bad(function) {
-        return refused(Verdict::BadFunction);
+        return Err(Refusal::BadFunction);
     }
     let mut chain = [0u8; 8];
-    let size = write(function, operand, &mut chain);
+    let size = chains::write(function, operand, &mut chain);
     if size > 8 {
-        return refused(Verdict::TooLong);
+        return Err(Refusal::TooLong);
     }
     if size > out.len() {
-        return refused(Verdict::NoRoom);
+        return Err(Refusal::NoRoom);
     }
-    copy(&chain, size, out);
-    Written {
-        verdict: Verdict::Done,
-        size,
-    }
+    out[..size].copy_from_slice(&chain[..size]);
+    Ok(size)
 }
 
-// Writes the listing of code.
-pub fn list(code: &[u8], out: &mut [u8]) -> Written
+// Writes the listing of code. The first pass, over no text, only counts its characters.
+pub fn list(code: &[u8], out: &mut [u8]) -> Result<usize, Refusal>
     ensures { ListContract code.now out.old result out.new }
 {
-    let names = names::table();
-    if passes::has_room(code, out.len(), &names) {
-        return Written {
-            verdict: Verdict::Done,
-            size: passes::write_listing(code, out, &names),
-        };
+    if passes::write_listing(code, &mut []) > out.len() {
+        return Err(Refusal::NoRoom);
     }
-    refused(Verdict::NoRoom)
+    Ok(passes::write_listing(code, out))
 }

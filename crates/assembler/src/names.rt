@@ -1,199 +1,130 @@
-// The names of functions and operations: the table that the listing copies from.
-ghost use Rattle.std.specs.Prelude.{◌≡◌, ◌+◌, ◌*◌, ◌<◌, ◌≤◌, length};
-ghost use Rattle.std.proofs.lemmas.List.Edits.{sets};
-ghost use Rattle.assembler.specs.Table.{rows_up_to, name_at};
+// The names of functions and operations, by their codes, as the listing writes them.
+ghost use Rattle.std.specs.Prelude.{◌≡◌, ◌<◌, ◌≤◌, ◌++◌, length, []};
+ghost use Rattle.rules.specs.Tests.{look};
+ghost use Rattle.assembly.specs.Names.{function_names, operation_names};
+ghost use Rattle.assembler.specs.Text.{name_line};
 
-// The first row of an operation: rows 0 to 15 are the functions.
-pub(crate) const OPERATIONS: usize = 16;
+use crate::line::Line;
 
-// The operations with a row of their own have codes below this one.
-pub(crate) const CODES: u32 = 127;
+static FUNCTIONS: [&str; 16] = [
+    "j", "ldlp", "pfix", "ldnl", "ldc", "ldnlp", "nfix", "ldl", "adc", "call", "cj", "ajw", "eqc",
+    "stl", "stnl", "opr",
+];
 
-// The last row, which has no name.
-pub(crate) const NAMELESS: usize = 143;
+// No operation has a code past the last one here.
+static OPERATIONS: [Option<&str>; 90] = [
+    Some("rev"),
+    Some("lb"),
+    Some("bsub"),
+    Some("endp"),
+    Some("diff"),
+    Some("add"),
+    Some("gcall"),
+    Some("in"),
+    Some("prod"),
+    Some("gt"),
+    Some("wsub"),
+    Some("out"),
+    Some("sub"),
+    Some("startp"),
+    Some("outbyte"),
+    Some("outword"),
+    Some("seterr"),
+    None,
+    Some("resetch"),
+    Some("csub0"),
+    None,
+    Some("stopp"),
+    Some("ladd"),
+    Some("stlb"),
+    Some("sthf"),
+    Some("norm"),
+    Some("ldiv"),
+    Some("ldpi"),
+    Some("stlf"),
+    Some("xdbl"),
+    Some("ldpri"),
+    Some("rem"),
+    Some("ret"),
+    Some("lend"),
+    Some("ldtimer"),
+    None,
+    None,
+    None,
+    None,
+    None,
+    None,
+    Some("testerr"),
+    Some("testpranal"),
+    Some("tin"),
+    Some("div"),
+    None,
+    Some("dist"),
+    Some("disc"),
+    Some("diss"),
+    Some("lmul"),
+    Some("not"),
+    Some("xor"),
+    Some("bcnt"),
+    Some("lshr"),
+    Some("lshl"),
+    Some("lsum"),
+    Some("lsub"),
+    Some("runp"),
+    Some("xword"),
+    Some("sb"),
+    Some("gajw"),
+    Some("savel"),
+    Some("saveh"),
+    Some("wcnt"),
+    Some("shr"),
+    Some("shl"),
+    Some("mint"),
+    Some("alt"),
+    Some("altwt"),
+    Some("altend"),
+    Some("and"),
+    Some("enbt"),
+    Some("enbc"),
+    Some("enbs"),
+    Some("move"),
+    Some("or"),
+    Some("csngl"),
+    Some("ccnt1"),
+    Some("talt"),
+    Some("ldiff"),
+    Some("sthb"),
+    Some("taltwt"),
+    Some("sum"),
+    Some("mul"),
+    Some("sttimer"),
+    Some("stoperr"),
+    Some("cword"),
+    Some("clrhalterr"),
+    Some("sethalterr"),
+    Some("testhalterr"),
+];
 
-// The bytes of a row: the length of a name, and the name, filled up with spaces.
-const ROW: usize = 12;
-
-// A row a function, then a row an operation; a code without a name has the length 0.
-const NAMES: [u8; 1728] = *b"\
-\x01j          \
-\x04ldlp       \
-\x04pfix       \
-\x04ldnl       \
-\x03ldc        \
-\x05ldnlp      \
-\x04nfix       \
-\x03ldl        \
-\x03adc        \
-\x04call       \
-\x02cj         \
-\x03ajw        \
-\x03eqc        \
-\x03stl        \
-\x04stnl       \
-\x03opr        \
-\x03rev        \
-\x02lb         \
-\x04bsub       \
-\x04endp       \
-\x04diff       \
-\x03add        \
-\x05gcall      \
-\x02in         \
-\x04prod       \
-\x02gt         \
-\x04wsub       \
-\x03out        \
-\x03sub        \
-\x06startp     \
-\x07outbyte    \
-\x07outword    \
-\x06seterr     \
-\x00           \
-\x07resetch    \
-\x05csub0      \
-\x00           \
-\x05stopp      \
-\x04ladd       \
-\x04stlb       \
-\x04sthf       \
-\x04norm       \
-\x04ldiv       \
-\x04ldpi       \
-\x04stlf       \
-\x04xdbl       \
-\x05ldpri      \
-\x03rem        \
-\x03ret        \
-\x04lend       \
-\x07ldtimer    \
-\x00           \
-\x00           \
-\x00           \
-\x00           \
-\x00           \
-\x00           \
-\x07testerr    \
-\x0atestpranal \
-\x03tin        \
-\x03div        \
-\x00           \
-\x04dist       \
-\x04disc       \
-\x04diss       \
-\x04lmul       \
-\x03not        \
-\x03xor        \
-\x04bcnt       \
-\x04lshr       \
-\x04lshl       \
-\x04lsum       \
-\x04lsub       \
-\x04runp       \
-\x05xword      \
-\x02sb         \
-\x04gajw       \
-\x05savel      \
-\x05saveh      \
-\x04wcnt       \
-\x03shr        \
-\x03shl        \
-\x04mint       \
-\x03alt        \
-\x05altwt      \
-\x06altend     \
-\x03and        \
-\x04enbt       \
-\x04enbc       \
-\x04enbs       \
-\x04move       \
-\x02or         \
-\x05csngl      \
-\x05ccnt1      \
-\x04talt       \
-\x05ldiff      \
-\x04sthb       \
-\x06taltwt     \
-\x03sum        \
-\x03mul        \
-\x07sttimer    \
-\x07stoperr    \
-\x05cword      \
-\x0aclrhalterr \
-\x0asethalterr \
-\x0btesthalterr\
-\x00           \
-\x00           \
-\x00           \
-\x00           \
-\x00           \
-\x00           \
-\x00           \
-\x00           \
-\x00           \
-\x00           \
-\x00           \
-\x00           \
-\x00           \
-\x00           \
-\x00           \
-\x00           \
-\x00           \
-\x00           \
-\x00           \
-\x00           \
-\x00           \
-\x00           \
-\x00           \
-\x00           \
-\x00           \
-\x00           \
-\x00           \
-\x00           \
-\x00           \
-\x00           \
-\x00           \
-\x00           \
-\x00           \
-\x00           \
-\x00           \
-\x00           \
-\x00           \
-\x00           ";
-
-// Returns the table. It is made once for a listing and lent on, since a constant array is made anew at each use.
-pub(crate) fn table() -> [u8; 1728]
-    ensures { result ≡ rows_up_to 144 }
+// Adds the name of a function to a line.
+pub(crate) fn put_function_name(function: usize, line: &mut Line)
+    requires { (function < 16) × (length line.old ≤ 13) }
+    ensures { line.new ≡ line.old ++ look function_names function [] }
 {
-    NAMES
+    line.push_str(FUNCTIONS[function]);
 }
 
-fn wide(x: u8) -> usize
-    ensures { result ≡ x }
+// Returns the line of an operation, its name alone, where one with this code is built.
+pub(crate) fn operation_line(code: u32) -> Option<Line>
+    ensures { result ≡ name_line (look operation_names code []) }
 {
-    x as usize
-}
-
-// Returns the length of a name, 0 where there is none.
-pub(crate) fn name_size(row: usize, names: &[u8]) -> usize
-    requires { (row < 144) × (names.now ≡ rows_up_to 144) }
-    ensures { (result ≡ length (name_at row)) × (result ≤ 11) }
-{
-    wide(names[ROW * row])
-}
-
-// Writes a name at byte at of the text; returns its end.
-pub(crate) fn put_name(row: usize, text: &mut [u8], at: usize, names: &[u8]) -> usize
-    requires { (row < 144) × (at + length (name_at row) ≤ length text.old) × (names.now ≡ rows_up_to 144) }
-    ensures { (result ≡ at + length (name_at row)) × (text.new ≡ sets text.old at (name_at row)) }
-{
-    let first = ROW * row + 1;
-    let size = name_size(row, names);
-    let mut i = 0;
-    while i < size {
-        text[at + i] = names[first + i];
-        i += 1;
+    let row = code as usize;
+    if row < OPERATIONS.len() {
+        if let Some(name) = OPERATIONS[row] {
+            let mut line = Line::new();
+            line.push_str(name);
+            line.push(b'\n');
+            return Some(line);
+        }
     }
-    at + size
+    None
 }

@@ -5,7 +5,7 @@ use mathlib.Core.Logic.{inl}
 use mathlib.Core.List.{List, [], ◌∷◌, ◌++◌}
 use Prim.Native.Nat.{ℕ, zero, suc, ◌-◌, ◌^◌, ◌<◌}
 use native.Mathlib.Omega.{arith}
-use lib.ListN.{length, length-append}
+use lib.ListN.{length, replicate, length-append, length-replicate}
 use Rattle.rules.specs.Tests.{if_lt, if_eq}
 use Rattle.rules.specs.Work.{put, access}
 use Rattle.rules.specs.Timers.{timer_due, timer_ready}
@@ -20,9 +20,8 @@ use Rattle.assembly.proofs.Exact.{before, final, chain-parts, chain_operand, all
 use Rattle.assembly.proofs.Shortest.{eight_enough}
 
 -- prefixes of 0
-pub zeros : ℕ → List ℕ
-zeros zero = []
-zeros (suc n) = instruction pfix 0 ∷ zeros n
+abbrev pub zeros : ℕ → List ℕ
+zeros n = replicate n (instruction pfix 0)
 
 -- the prefixes of an operand, filled up to seven
 abbrev pub filling : ℕ → ℕ → List ℕ
@@ -32,20 +31,14 @@ abbrev pub filled : ℕ → ℕ → List ℕ
 filled f v = filling f v ++ (final f v ∷ [])
 
 zeros_prefixes : (n : ℕ) → Prefixes (zeros n)
-unfolding zeros
 zeros_prefixes zero = tt
 zeros_prefixes (suc n) = (is-prefix (instruction pfix 0) (inl refl), zeros_prefixes n)
 
 -- a prefix of 0 leaves Oreg 0
 zeros_leave : (n : ℕ) → after_prefixes 0 (zeros n) ≡ 0
-unfolding zeros after_prefixes
+unfolding after_prefixes
 zeros_leave zero = refl
 zeros_leave (suc n) = ap (λ (o : ℕ). after_prefixes o (zeros n)) (after-pfix 0 (instruction pfix 0) refl refl) ∙ zeros_leave n
-
-zeros-length : (n : ℕ) → length (zeros n) ≡ n
-unfolding zeros
-zeros-length zero = refl
-zeros-length (suc n) = ap suc (zeros-length n)
 
 -- it writes prefixes and a final byte, eight in all, and gives the function the same operand
 pub filled_prefixes : (f v : ℕ) → Prefixes (filling f v)
@@ -57,7 +50,7 @@ filled_operand f v h =
 
 pub filled_eight : (f v : ℕ) → v < 2 ^ 32 → length (filled f v) ≡ 8
 filled_eight f v h =
-    rw (length-append (filling f v) (final f v ∷ []), length-append (zeros (8 - length (chain f v))) (before 15 v), zeros-length (8 - length (chain f v)))
+    rw (length-append (filling f v) (final f v ∷ []), length-append (zeros (8 - length (chain f v))) (before 15 v), length-replicate {A = ℕ} (8 - length (chain f v)) (instruction pfix 0))
     (omega (arith, eight_enough f v h, ap length (chain-parts 15 f v) ∙ length-append (before 15 v) (final f v ∷ [])))
 
 -- and it is not the shortest: in a fresh machine with the code 40 one byte gives ldc the operand 0

@@ -1,13 +1,14 @@
 -- What the machine makes of prefix bytes, in arithmetic: an Oreg that ends in four clear bits, and the nibble that is ORed into them.
 use mathlib.Core.Path.{◌≡◌, refl, ap, ◌∙◌}
 use mathlib.Core.Logic.{◌⊎◌, inl, inr, ⊎_elim}
-use mathlib.Core.Bool.{Bool, true, false, ◌||◌}
+use mathlib.Core.Bool.{true, false}
 use lib.Dec.{eqb}
 use borrow.Author.Tests.{eqb-true, eq-eqb, ne_eqb}
 use mathlib.Core.List.{List, [], ◌∷◌, ◌++◌}
 use Prim.Native.Nat.{ℕ, ◌+◌, ◌-◌, ◌*◌, ◌/◌, ◌%◌, ◌^◌, ◌<◌}
 use native.Mathlib.Omega.{arith}
 use lib.Bits.{bit_or, and_mask, or_shifted}
+use Rattle.std.proofs.lemmas.Bool.{or_cases}
 use Rattle.rules.specs.Words.{range, with_nibble, prefixed, negative_prefixed}
 use Rattle.rules.proofs.Tests.{yes_eq, no_eq}
 use Rattle.assembly.specs.Chain.{pfix, nfix, function_of, is_prefix, after_prefix, after_prefixes}
@@ -15,15 +16,11 @@ use Rattle.assembly.specs.Meeting.{Prefixes}
 
 -- ---- a prefix is pfix or nfix
 
-either : (a b : Bool) → (a || b) ≡ true → (a ≡ true) ⊎ (b ≡ true)
-either true b h = inl refl
-either false b h = inr h
-
 pub prefix_cases : (byte : ℕ) → is_prefix byte ≡ true → (function_of byte ≡ pfix) ⊎ (function_of byte ≡ nfix)
 unfolding is_prefix
 prefix_cases byte h =
     ⊎_elim (λ e. inl (eqb-true (function_of byte) pfix e)) (λ e. inr (eqb-true (function_of byte) nfix e))
-    (either (eqb (function_of byte) pfix) (eqb (function_of byte) nfix) h)
+    (or_cases (eqb (function_of byte) pfix) (eqb (function_of byte) nfix) h)
 
 pub is-prefix : (byte : ℕ) → (function_of byte ≡ pfix) ⊎ (function_of byte ≡ nfix) → is_prefix byte ≡ true
 unfolding is_prefix

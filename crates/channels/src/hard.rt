@@ -1,130 +1,123 @@
 // Hard channels (000 1.10, 1.11; 01, Links, clocks, slice): the start of a transfer, and reset channel.
-ghost use Rattle.std.specs.Prelude.{◌≡◌, List, ℕ, ◌<◌};
-ghost use Rattle.rules.specs.Registers as registers;
+ghost use Rattle.std.specs.Prelude.{◌≡◌, ◌<◌};
 ghost use Rattle.rules.specs.Channels as channels;
-ghost use Rattle.plan.specs.View.{view, Room, Grown};
+ghost use Rattle.plan.specs.View.{work_of, view, Room, Grown};
+ghost use Rattle.plan.specs.declared.Log.{Log};
 
 use links::link_calls::{event_meets, receive};
 use memory::loads::load_word;
 use memory::store::w_index_word;
-use plan::{LOG, goto_snp, lower, raise};
+use plan::channel::Channel;
+use plan::{Plan, goto_snp, lower, raise};
 use rules::REGISTERS;
 use rules::names::*;
 use scheduling::stopping::save_iptr;
 use words::{at_word, held_byte, index_of};
 
 // Sets pointer, count and active; the other bits stay (DECISIONS 31).
-fn start_transfer(regs: &mut [u32; REGISTERS], c: usize)
-    requires { c < registers.link_chans }
-    ensures { (log : List ℕ) → view regs.new log ≡ channels.start_transfer c (view regs.old log) }
+#[tactic(auto, unfolding(rules::specs::Channels::start_transfer, rules::specs::Work::put))]
+fn start_transfer(regs: &mut [u32; REGISTERS], c: Channel)
+    ensures { (log : Log) → view regs.new log ≡ channels.start_transfer c (view regs.old log) }
 {
-    let p = POINTER_REG + 3 * c;
-    let n = COUNT_REG + 3 * c;
-    let k = CHANNEL_REG + 3 * c;
-    let pointer = regs[CREG];
-    let count = regs[AREG];
-    regs[p] = pointer;
-    regs[n] = count;
-    raise(regs, k, ACTIVE_BIT);
+    regs[c.pointer()] = regs[CREG];
+    regs[c.count()] = regs[AREG];
+    raise(regs, c.flags(), ACTIVE_BIT);
 }
 
 // HardChannelInputOutputAction (000 1.10): stores Wdesc in the channel word, saves Iptr, and starts the transfer.
-fn hard_start(regs: &mut [u32; REGISTERS], log: &mut [u32; LOG], mem: &[u32], c: usize)
-    requires { (c < registers.link_chans) × Room 2 log.old }
-    ensures { (view regs.new log.new ≡ channels.hard_start mem.now c (view regs.old log.old)) × Grown 2 log.old log.new }
+#[tactic(auto, unfolding(rules::specs::Channels::hard_start))]
+fn hard_start(plan: &mut Plan, mem: &[u32], c: Channel)
+    requires { Room 2 plan.old.log }
+    ensures { (work_of plan.new ≡ channels.hard_start mem.now c (work_of plan.old)) × Grown 2 plan.old.log plan.new.log }
 {
-    w_index_word(log, mem, regs[BREG], 0, regs[WDESC_REG]);
-    save_iptr(regs, log, mem);
-    start_transfer(regs, c);
+    w_index_word(&mut plan.log, mem, plan.regs[BREG], 0, plan.regs[WDESC_REG]);
+    save_iptr(plan, mem);
+    start_transfer(&mut plan.regs, c);
 }
 
 // Starts an output and sets GotoSNPBit. A count of 0 touches neither link nor channel word, and the process goes on (DECISIONS 28).
-pub fn hard_output(regs: &mut [u32; REGISTERS], log: &mut [u32; LOG], mem: &[u32], c: usize)
-    requires { (c < registers.link_chans) × Room 2 log.old }
-    ensures { (view regs.new log.new ≡ channels.hard_output mem.now c (view regs.old log.old)) × Grown 2 log.old log.new }
+#[tactic(auto, using(plan::proofs::Decided::tests), unfolding(rules::specs::Channels::hard_output))]
+pub fn hard_output(plan: &mut Plan, mem: &[u32], c: Channel)
+    requires { Room 2 plan.old.log }
+    ensures { (work_of plan.new ≡ channels.hard_output mem.now c (work_of plan.old)) × Grown 2 plan.old.log plan.new.log }
 {
-    if regs[AREG] == 0 {
-        return;
+    if plan.regs[AREG] != 0 {
+        hard_start(plan, mem, c);
+        goto_snp(&mut plan.regs);
     }
-    hard_start(regs, log, mem, c);
-    goto_snp(regs);
 }
 
 // Does with what is held what a give or an event would do (DECISIONS 29).
-fn meet_held(regs: &mut [u32; REGISTERS], log: &mut [u32; LOG], mem: &[u32], c: usize)
-    requires { (c < registers.link_chans) × Room 1 log.old }
-    ensures { (view regs.new log.new ≡ channels.meet_held mem.now c (view regs.old log.old)) × Grown 1 log.old log.new }
+#[tactic(auto, using(plan::proofs::Decided::tests), unfolding(rules::specs::Channels::meet_held))]
+fn meet_held(plan: &mut Plan, mem: &[u32], c: Channel)
+    requires { Room 1 plan.old.log }
+    ensures { (work_of plan.new ≡ channels.meet_held mem.now c (work_of plan.old)) × Grown 1 plan.old.log plan.new.log }
 {
-    if c == EVENT_CHANNEL {
-        event_meets(regs);
-        return;
+    if c == Channel::event() {
+        event_meets(&mut plan.regs);
+    } else {
+        let byte = held_byte(plan.regs[c.flags()]);
+        receive(plan, mem, c, byte);
     }
-    let k = CHANNEL_REG + 3 * c;
-    let byte = held_byte(regs[k]);
-    receive(regs, log, mem, c, byte);
 }
 
 // Starts a transfer, clears held and uses what was held (DECISIONS 29).
-fn hard_input_held(regs: &mut [u32; REGISTERS], log: &mut [u32; LOG], mem: &[u32], c: usize)
-    requires { (c < registers.link_chans) × Room 3 log.old }
-    ensures { (view regs.new log.new ≡ channels.hard_input_held mem.now c (view regs.old log.old)) × Grown 3 log.old log.new }
+#[tactic(auto, unfolding(rules::specs::Channels::hard_input_held))]
+fn hard_input_held(plan: &mut Plan, mem: &[u32], c: Channel)
+    requires { Room 3 plan.old.log }
+    ensures { (work_of plan.new ≡ channels.hard_input_held mem.now c (work_of plan.old)) × Grown 3 plan.old.log plan.new.log }
 {
-    let k = CHANNEL_REG + 3 * c;
-    hard_start(regs, log, mem, c);
-    lower(regs, k, HELD_BIT);
-    meet_held(regs, log, mem, c);
-    goto_snp(regs);
+    hard_start(plan, mem, c);
+    lower(&mut plan.regs, c.flags(), HELD_BIT);
+    meet_held(plan, mem, c);
+    goto_snp(&mut plan.regs);
 }
 
 // Starts a transfer; only an `in` on channels 4 to 8 uses what is held (DECISIONS 29).
-fn hard_input_start(regs: &mut [u32; REGISTERS], log: &mut [u32; LOG], mem: &[u32], c: usize)
-    requires { (c < registers.link_chans) × Room 3 log.old }
-    ensures { (view regs.new log.new ≡ channels.hard_input_start mem.now c (view regs.old log.old)) × Grown 3 log.old log.new }
+#[tactic(auto, using(plan::proofs::Decided::tests), unfolding(rules::specs::Channels::hard_input_start))]
+fn hard_input_start(plan: &mut Plan, mem: &[u32], c: Channel)
+    requires { Room 3 plan.old.log }
+    ensures { (work_of plan.new ≡ channels.hard_input_start mem.now c (work_of plan.old)) × Grown 3 plan.old.log plan.new.log }
 {
-    if c < 4 {
-        hard_start(regs, log, mem, c);
-        goto_snp(regs);
-        return;
+    if c.is_output() || plan.regs[c.flags()] & HELD_BIT == 0 {
+        hard_start(plan, mem, c);
+        goto_snp(&mut plan.regs);
+    } else {
+        hard_input_held(plan, mem, c);
     }
-    let k = CHANNEL_REG + 3 * c;
-    if regs[k] & HELD_BIT == 0 {
-        hard_start(regs, log, mem, c);
-        goto_snp(regs);
-        return;
-    }
-    hard_input_held(regs, log, mem, c);
 }
 
 // Starts an input and sets GotoSNPBit; a count of 0 does nothing (DECISIONS 28).
-pub fn hard_input(regs: &mut [u32; REGISTERS], log: &mut [u32; LOG], mem: &[u32], c: usize)
-    requires { (c < registers.link_chans) × Room 3 log.old }
-    ensures { (view regs.new log.new ≡ channels.hard_input mem.now c (view regs.old log.old)) × Grown 3 log.old log.new }
+#[tactic(auto, using(plan::proofs::Decided::tests), unfolding(rules::specs::Channels::hard_input))]
+pub fn hard_input(plan: &mut Plan, mem: &[u32], c: Channel)
+    requires { Room 3 plan.old.log }
+    ensures { (work_of plan.new ≡ channels.hard_input mem.now c (work_of plan.old)) × Grown 3 plan.old.log plan.new.log }
 {
-    if regs[AREG] == 0 {
-        return;
+    if plan.regs[AREG] != 0 {
+        hard_input_start(plan, mem, c);
     }
-    hard_input_start(regs, log, mem, c);
 }
 
 // Clears bits 0 to 4 of a hard channel's flags; a soft channel has no flags.
+#[tactic(auto, using(plan::proofs::Decided::tests), unfolding(rules::specs::Channels::reset_hard))]
 fn reset_hard(regs: &mut [u32; REGISTERS], mem: &[u32], number: u32)
-    ensures { (log : List ℕ) → view regs.new log ≡ channels.reset_hard mem.now number (view regs.old log) }
+    ensures { (log : Log) → view regs.new log ≡ channels.reset_hard mem.now number (view regs.old log) }
 {
-    if number < LINK_CHANS {
-        let k = CHANNEL_REG + 3 * (number as usize);
-        lower(regs, k, 0x1F);
+    if let Some(c) = Channel::new(number) {
+        lower(regs, c.flags(), 0x1F);
     }
 }
 
 // Resets channel A, and leaves the old channel word in A (000 1.11, reset channel).
-pub fn resetch(regs: &mut [u32; REGISTERS], log: &mut [u32; LOG], mem: &[u32])
-    requires { Room 1 log.old }
-    ensures { (view regs.new log.new ≡ channels.resetch mem.now (view regs.old log.old)) × Grown 1 log.old log.new }
+#[tactic(auto, unfolding(rules::specs::Channels::resetch, rules::specs::Work::put))]
+pub fn resetch(plan: &mut Plan, mem: &[u32])
+    requires { Room 1 plan.old.log }
+    ensures { (work_of plan.new ≡ channels.resetch mem.now (work_of plan.old)) × Grown 1 plan.old.log plan.new.log }
 {
-    let channel = regs[AREG];
+    let channel = plan.regs[AREG];
     let a = at_word(channel, 0);
-    let content = load_word(log, mem, a);
-    w_index_word(log, mem, channel, 0, NOT_PROCESS);
-    reset_hard(regs, mem, index_of(channel));
-    regs[AREG] = content;
+    let content = load_word(&mut plan.log, mem, a);
+    w_index_word(&mut plan.log, mem, channel, 0, NOT_PROCESS);
+    reset_hard(&mut plan.regs, mem, index_of(channel));
+    plan.regs[AREG] = content;
 }

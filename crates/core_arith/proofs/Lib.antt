@@ -1,4 +1,2 @@
-pub mod Division
 pub mod LongNaturals
 pub mod Normal
-pub mod SumNaturals

@@ -1,6 +1,5 @@
 -- Two words as one number: bounds and parts.
-use Rattle.std.proofs.Common.{◌≡◌, ℕ, ◌+◌, ◌*◌, ◌/◌, ◌%◌, ◌^◌, ◌<◌, ◌≤◌, mul-le-mul_right, div-lt_iff_lt-mul, arith}
-use lib.Pow.{mod-pow-add}
+use Rattle.std.proofs.Common.{◌≡◌, ℕ, ◌+◌, ◌*◌, ◌/◌, ◌^◌, ◌<◌, ◌≤◌, mul-le-mul_right, div-lt_iff_lt-mul, arith}
 
 pub product_fits : (a b c : ℕ) → a < 2 ^ 32 → b < 2 ^ 32 → c < 2 ^ 32 → a * b + c < 2 ^ 64
 product_fits a b c ha hb hc =
@@ -12,10 +11,3 @@ pub quotient_fits : (hi lo a : ℕ) → hi < a → lo < 2 ^ 32 → (hi * 2 ^ 32 
 quotient_fits hi lo a h l =
     let p : 0 < a = omega arith in
     (div-lt_iff_lt-mul {k = a} {x = hi * 2 ^ 32 + lo} {y = 2 ^ 32} p).1 (omega arith)
-
--- the two words of a number modulo 2 ^ 64
-pub low_part : (x : ℕ) → x % 2 ^ 32 ≡ x % 2 ^ 64 % 2 ^ 32
-low_part x = rw (mod-pow-add x 32 32) (omega arith)
-
-pub high_part : (x : ℕ) → x / 2 ^ 32 % 2 ^ 32 ≡ x % 2 ^ 64 / 2 ^ 32
-high_part x = rw (mod-pow-add x 32 32) (omega arith)

@@ -2,27 +2,28 @@
 ghost use Rattle.std.specs.Prelude.{◌≡◌};
 ghost use Rattle.rules.specs.Stack as stack;
 
-use crate::signed::{biased, word_of};
+use crate::signed::{signed, word_of};
 use core_ops::errors::error_if;
 use core_ops::stack::{pop, result};
 use rules::Core;
 
+#[tactic(auto, unfolding(rules::specs::Stack::xword))]
 pub fn xword(s: Core) -> Core
     ensures { result ≡ stack.xword s }
 {
-    let v = biased(s.b) as u64;
-    if v < s.a as u64 + 0x8000_0000 {
-        return result(s.b, s);
+    if signed(s.b) < i64::from(s.a) {
+        result(s.b, s)
+    } else {
+        result(word_of(signed(s.b) - 2 * i64::from(s.a)), s)
     }
-    result(word_of(v, 0x8000_0000 + 2 * s.a as u64), s)
 }
 
+#[tactic(auto, unfolding(rules::specs::Stack::cword))]
 pub fn cword(s: Core) -> Core
     ensures { result ≡ stack.cword s }
 {
-    let v = biased(s.b) as u64;
-    if s.a as u64 + 0x8000_0000 <= v {
-        return error_if(true, pop(s));
-    }
-    error_if(v + (s.a as u64) < 0x8000_0000, pop(s))
+    error_if(
+        i64::from(s.a) <= signed(s.b) || signed(s.b) < -i64::from(s.a),
+        pop(s),
+    )
 }

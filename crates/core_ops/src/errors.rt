@@ -7,20 +7,24 @@ use crate::stack::{pop, push};
 use rules::Core;
 use rules::names::*;
 
+// Kept, point 2: sethalterr sets another bit, each one expression of its own definition; a function over both would be as long as the two (d).
 pub fn set_error_flag(s: Core) -> Core
     ensures { result ≡ core.set_error_flag s }
 {
-    let mut t = s;
-    t.status = s.status | ERROR_FLAG;
-    t
+    Core {
+        status: words::set_bits(ERROR_FLAG, s.status),
+        ..s
+    }
 }
 
+// Kept, point 2: clrhalterr clears another bit, each one expression of its own definition; a function over both would be as long as the two (d).
 pub fn clear_error_flag(s: Core) -> Core
     ensures { result ≡ core.clear_error_flag s }
 {
-    let mut t = s;
-    t.status = s.status & !ERROR_FLAG;
-    t
+    Core {
+        status: words::clear_bits(ERROR_FLAG, s.status),
+        ..s
+    }
 }
 
 pub fn error_if(test: bool, s: Core) -> Core
@@ -30,6 +34,7 @@ pub fn error_if(test: bool, s: Core) -> Core
 }
 
 // Check subscript from 0, unsigned.
+#[tactic(auto, unfolding(rules::specs::Stack::csub0))]
 pub fn csub0(s: Core) -> Core
     ensures { result ≡ stack.csub0 s }
 {
@@ -37,22 +42,18 @@ pub fn csub0(s: Core) -> Core
 }
 
 // Check count from 1, unsigned: a count of 0 is an error too.
+#[tactic(auto, unfolding(rules::specs::Stack::ccnt1))]
 pub fn ccnt1(s: Core) -> Core
     ensures { result ≡ stack.ccnt1 s }
 {
-    if s.b == 0 {
-        return error_if(true, pop(s));
-    }
-    error_if(s.a < s.b, pop(s))
+    error_if(s.b == 0 || s.a < s.b, pop(s))
 }
 
+#[tactic(auto, unfolding(rules::specs::Stack::testerr, rules::specs::Tests::if_eq))]
 pub fn testerr(s: Core) -> Core
     ensures { result ≡ stack.testerr s }
 {
-    if s.status & ERROR_FLAG == 0 {
-        return clear_error_flag(push(1, s));
-    }
-    clear_error_flag(push(0, s))
+    clear_error_flag(push(u32::from(s.status & ERROR_FLAG == 0), s))
 }
 
 pub fn seterr(s: Core) -> Core
@@ -64,24 +65,24 @@ pub fn seterr(s: Core) -> Core
 pub fn clrhalterr(s: Core) -> Core
     ensures { result ≡ stack.clrhalterr s }
 {
-    let mut t = s;
-    t.status = s.status & !HALT_ON_ERROR_BIT;
-    t
+    Core {
+        status: words::clear_bits(HALT_ON_ERROR_BIT, s.status),
+        ..s
+    }
 }
 
 pub fn sethalterr(s: Core) -> Core
     ensures { result ≡ stack.sethalterr s }
 {
-    let mut t = s;
-    t.status = s.status | HALT_ON_ERROR_BIT;
-    t
+    Core {
+        status: words::set_bits(HALT_ON_ERROR_BIT, s.status),
+        ..s
+    }
 }
 
+#[tactic(auto, unfolding(rules::specs::Stack::testhalterr, rules::specs::Tests::if_eq))]
 pub fn testhalterr(s: Core) -> Core
     ensures { result ≡ stack.testhalterr s }
 {
-    if s.status & HALT_ON_ERROR_BIT == 0 {
-        return push(0, s);
-    }
-    push(1, s)
+    push(u32::from(s.status & HALT_ON_ERROR_BIT != 0), s)
 }

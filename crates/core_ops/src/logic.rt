@@ -2,10 +2,11 @@
 ghost use Rattle.std.specs.Prelude.{◌≡◌};
 ghost use Rattle.std.specs.Int.Signed.{shr_z};
 ghost use Rattle.rules.specs.Stack as stack;
+ghost use Rattle.rules.specs.Tests.{if_lt};
 ghost use Rattle.rules.specs.Words.{sign, restore_to_range};
 
 use crate::stack::{result, with_a};
-use rules::{Attempt, Core};
+use rules::Core;
 
 pub fn bsub(s: Core) -> Core
     ensures { result ≡ stack.bsub s }
@@ -26,6 +27,7 @@ pub fn bcnt(s: Core) -> Core
 }
 
 // Divides a signed word by 4, rounding down: shifts right by two bits and copies the sign.
+#[tactic(auto, unfolding(rules::specs::Words::sign, rules::specs::Words::restore_to_range, rules::specs::Tests::if_lt))]
 pub fn quarter(x: u32) -> u32
     ensures { result ≡ restore_to_range (shr_z (sign x) 4) }
 {
@@ -36,11 +38,12 @@ pub fn quarter(x: u32) -> u32
 pub fn wcnt(s: Core) -> Core
     ensures { result ≡ stack.wcnt s }
 {
-    let mut t = s;
-    t.c = s.b;
-    t.b = s.a & 3;
-    t.a = quarter(s.a);
-    t
+    Core {
+        a: quarter(s.a),
+        b: s.a & 3,
+        c: s.b,
+        ..s
+    }
 }
 
 pub fn and(s: Core) -> Core
@@ -68,46 +71,43 @@ pub fn bitnot(s: Core) -> Core
 }
 
 // Wraps the registers of an operation that completes.
-pub fn completed(s: Core) -> Attempt
+pub fn completed(s: Core) -> Option<Core>
     ensures { result ≡ stack.completed s }
 {
-    Attempt {
-        core: s,
-        stops: false,
-    }
+    Some(s)
 }
 
 // Wraps the registers of an operation that Stops: an IF of 000 with no true branch.
-pub fn stopped(s: Core) -> Attempt
-    ensures { result ≡ stack.stopped s }
+pub fn stopped(_s: Core) -> Option<Core>
+    ensures { result ≡ stack.stopped _s }
 {
-    Attempt {
-        core: s,
-        stops: true,
+    None
+}
+
+// Completes with the registers t of an operation, or Stops where the count A of the registers s before it is above limit.
+#[tactic(auto, unfolding(rules::specs::Tests::if_lt))]
+pub fn counted(limit: u32, s: Core, t: Core) -> Option<Core>
+    ensures { result ≡ if_lt limit s.a (stack.stopped s) (stack.completed t) }
+{
+    if limit < s.a {
+        stopped(s)
+    } else {
+        completed(t)
     }
 }
 
-// Shift left: Stops where the count is above 32. The count 32 is a case of its own, since the language has no shift by 32.
-pub fn shl(s: Core) -> Attempt
+// Shift left: Stops where the count is above 32; by 32 every bit is lost.
+// Kept, point 2: shr shifts the other way, each one line over counted and a method of std (d).
+#[tactic(auto, unfolding(rules::specs::Stack::shl, rules::specs::Tests::if_lt))]
+pub fn shl(s: Core) -> Option<Core>
     ensures { result ≡ stack.shl s }
 {
-    if 32 < s.a {
-        return stopped(s);
-    }
-    if s.a == 32 {
-        return completed(result(0, s));
-    }
-    completed(result(s.b << s.a, s))
+    counted(32, s, result(s.b.checked_shl(s.a).unwrap_or(0), s))
 }
 
-pub fn shr(s: Core) -> Attempt
+#[tactic(auto, unfolding(rules::specs::Stack::shr, rules::specs::Tests::if_lt))]
+pub fn shr(s: Core) -> Option<Core>
     ensures { result ≡ stack.shr s }
 {
-    if s.a > 32 {
-        return stopped(s);
-    }
-    if s.a == 32 {
-        return completed(result(0, s));
-    }
-    completed(result(s.b >> s.a, s))
+    counted(32, s, result(s.b.checked_shr(s.a).unwrap_or(0), s))
 }

@@ -10,51 +10,51 @@ use rules::names::*;
 pub fn push(x: u32, s: Core) -> Core
     ensures { result ≡ core.push x s }
 {
-    let mut t = s;
-    t.c = s.b;
-    t.b = s.a;
-    t.a = x;
-    t
+    Core {
+        a: x,
+        b: s.a,
+        c: s.b,
+        ..s
+    }
 }
 
 // Pops A: A := B; B := C; C keeps its value.
+// Kept, point 2: rev and gcall set other registers, each one expression of its own definition; a function over both would be as long as the two (d).
 pub fn pop(s: Core) -> Core
     ensures { result ≡ core.pop s }
 {
-    let mut t = s;
-    t.a = s.b;
-    t.b = s.c;
-    t
+    Core {
+        a: s.b,
+        b: s.c,
+        ..s
+    }
 }
 
 // Replaces the operands A and B by the result x: A := x; B := C.
 pub fn result(x: u32, s: Core) -> Core
     ensures { result ≡ core.result x s }
 {
-    let mut t = s;
-    t.a = x;
-    t.b = s.c;
-    t
+    Core { a: x, b: s.c, ..s }
 }
 
 // Assigns A := x.
 pub fn with_a(x: u32, s: Core) -> Core
     ensures { result ≡ core.with_a x s }
 {
-    let mut t = s;
-    t.a = x;
-    t
+    Core { a: x, ..s }
 }
 
 // Moves Wdesc to a new workspace; ORs the old priority in (DECISIONS 12).
 pub fn move_workspace(wptr: u32, s: Core) -> Core
     ensures { result ≡ core.move_workspace wptr s }
 {
-    let mut t = s;
-    t.wdesc = wptr | words::priority_of(s.wdesc);
-    t
+    Core {
+        wdesc: wptr | words::priority_of(s.wdesc),
+        ..s
+    }
 }
 
+// Kept, point 2: ajw moves the workspace to the address that this pushes; each is one expression of its own definition (d).
 pub fn ldlp(s: Core) -> Core
     ensures { result ≡ stack.ldlp s }
 {
@@ -73,26 +73,26 @@ pub fn ldc(s: Core) -> Core
     push(s.oreg, s)
 }
 
+#[tactic(auto, unfolding(rules::specs::Stack::eqc, rules::specs::Tests::if_eq))]
 pub fn eqc(s: Core) -> Core
     ensures { result ≡ stack.eqc s }
 {
-    if s.a == s.oreg {
-        with_a(1, s)
-    } else {
-        with_a(0, s)
-    }
+    with_a(u32::from(s.a == s.oreg), s)
 }
 
 // Conditional jump: keeps the stack where the jump is taken, else pops A (DECISIONS 8).
+#[tactic(auto, unfolding(rules::specs::Stack::cj, rules::specs::Tests::if_eq))]
 pub fn cj(s: Core) -> Core
     ensures { result ≡ stack.cj s }
 {
     if s.a == 0 {
-        let mut t = s;
-        t.iptr = words::at_byte(s.iptr, s.oreg);
-        return t;
+        Core {
+            iptr: words::at_byte(s.iptr, s.oreg),
+            ..s
+        }
+    } else {
+        pop(s)
     }
-    pop(s)
 }
 
 pub fn ajw(s: Core) -> Core
@@ -101,29 +101,33 @@ pub fn ajw(s: Core) -> Core
     move_workspace(words::at_word(words::wptr_of(s.wdesc), s.oreg), s)
 }
 
+// Kept, point 2: nfix prefixes the complement, each one expression of its own definition; a function over both would be as long as the two (d).
 pub fn pfix(s: Core) -> Core
     ensures { result ≡ stack.pfix s }
 {
-    let mut t = s;
-    t.oreg = words::prefixed(s.oreg);
-    t
+    Core {
+        oreg: words::prefixed(s.oreg),
+        ..s
+    }
 }
 
 pub fn nfix(s: Core) -> Core
     ensures { result ≡ stack.nfix s }
 {
-    let mut t = s;
-    t.oreg = words::negative_prefixed(s.oreg);
-    t
+    Core {
+        oreg: words::negative_prefixed(s.oreg),
+        ..s
+    }
 }
 
 pub fn rev(s: Core) -> Core
     ensures { result ≡ stack.rev s }
 {
-    let mut t = s;
-    t.a = s.b;
-    t.b = s.a;
-    t
+    Core {
+        a: s.b,
+        b: s.a,
+        ..s
+    }
 }
 
 pub fn ldpi(s: Core) -> Core
@@ -142,10 +146,11 @@ pub fn gajw(s: Core) -> Core
 pub fn gcall(s: Core) -> Core
     ensures { result ≡ stack.gcall s }
 {
-    let mut t = s;
-    t.a = s.iptr;
-    t.iptr = s.a;
-    t
+    Core {
+        a: s.iptr,
+        iptr: s.a,
+        ..s
+    }
 }
 
 pub fn mint(s: Core) -> Core

@@ -4,17 +4,18 @@ use mathlib.Core.Bool.{Bool, true, false}
 use mathlib.Core.List.{List, [], ◌∷◌, ◌++◌}
 use Prim.Native.Nat.{ℕ}
 use lib.Dec.{eqb}
+use Rattle.std.specs.Prelude.{Option, Some, None}
 use Rattle.rules.specs.Tests.{pick, look}
 use Rattle.rules.specs.Registers.{core_of}
 use Rattle.rules.specs.Work.{Work, put_core}
 use Rattle.rules.specs.Operations.{Action, on_registers, register_operations, other_operations, operations, unlisted_action, operate}
 use Rattle.rules.specs.declared.Core.{Core}
 use Rattle.core_table.specs.Selected.{selecting, none, register_operation}
-use Rattle.core_table.specs.declared.Selected.{Selected}
 
 -- an operation selected in the first table, else what the second table has
-unfoldable pub either : Selected → Work → Work → Work
-either t w v = pick t.found (put_core t.core w) v
+unfoldable pub either : Option Core → Work → Work → Work
+either None w v = v
+either (Some s) w v = put_core s w
 
 look_either : (t : List (ℕ × (Core → Core))) (u : List (ℕ × Action)) (k : ℕ) (d : Action) (m : List ℕ) (w : Work)
     → look (on_registers t ++ u) k d m w ≡ either (look (selecting t) k none (core_of w.regs)) w (look u k d m w)
@@ -24,7 +25,7 @@ look_either (e ∷ t) u k d m w = go (eqb k e.0) (look_either t u k d m w)
   where
     go : (b : Bool) → look (on_registers t ++ u) k d m w ≡ either (look (selecting t) k none (core_of w.regs)) w (look u k d m w)
         → pick b (λ m w. put_core (e.1 (core_of w.regs)) w) (look (on_registers t ++ u) k d) m w
-        ≡ either (pick b (λ s. record { found = true; core = e.1 s }) (look (selecting t) k none) (core_of w.regs)) w (look u k d m w)
+        ≡ either (pick b (λ s. Some (e.1 s)) (look (selecting t) k none) (core_of w.regs)) w (look u k d m w)
     go true h = refl
     go false h = h
 

@@ -1,11 +1,12 @@
 // Call, return and alt end (000 1.11).
-ghost use Rattle.std.specs.Prelude.{◌≡◌, List, ℕ};
-ghost use Rattle.plan.specs.View.{view, Room, Grown};
+ghost use Rattle.std.specs.Prelude.{◌≡◌};
+ghost use Rattle.plan.specs.View.{work_of, view, Room, Grown};
+ghost use Rattle.plan.specs.declared.Log.{Log};
 ghost use Rattle.rules.specs.Data as dataRules;
 
 use memory::loads::load_word;
 use memory::store::{r_index_word, w_index_word};
-use plan::LOG;
+use plan::Plan;
 use plan::operands::{adjusted, jump_by};
 use rules::REGISTERS;
 use rules::names::*;
@@ -26,20 +27,22 @@ const FRAME_WORDS: u32 = 4;
 const MINUS_FRAME: u32 = 0xFFFF_FFFC;
 
 // Stores the call frame: C, B, A, then Iptr.
-fn call_frame(regs: &[u32; REGISTERS], log: &mut [u32; LOG], mem: &[u32])
-    requires { Room 4 log.old }
-    ensures { (view regs.now log.new ≡ dataRules.call_frame mem.now (view regs.now log.old)) × Grown 4 log.old log.new }
+#[tactic(auto, unfolding(rules::specs::Data::call_frame))]
+fn call_frame(plan: &mut Plan, mem: &[u32])
+    requires { Room 4 plan.old.log }
+    ensures { (work_of plan.new ≡ dataRules.call_frame mem.now (work_of plan.old)) × Grown 4 plan.old.log plan.new.log × (plan.new.regs ≡ plan.old.regs) }
 {
-    let wptr = regs[WDESC_REG] & WPTR_MASK;
-    w_index_word(log, mem, wptr, CREG_PLACE, regs[CREG]);
-    w_index_word(log, mem, wptr, BREG_PLACE, regs[BREG]);
-    w_index_word(log, mem, wptr, AREG_PLACE, regs[AREG]);
-    w_index_word(log, mem, wptr, IPTR_PLACE, regs[IPTR_REG]);
+    let wptr = plan.regs[WDESC_REG] & WPTR_MASK;
+    w_index_word(&mut plan.log, mem, wptr, CREG_PLACE, plan.regs[CREG]);
+    w_index_word(&mut plan.log, mem, wptr, BREG_PLACE, plan.regs[BREG]);
+    w_index_word(&mut plan.log, mem, wptr, AREG_PLACE, plan.regs[AREG]);
+    w_index_word(&mut plan.log, mem, wptr, IPTR_PLACE, plan.regs[IPTR_REG]);
 }
 
 // Copies the return address to A, moves Wptr below the frame and jumps by Oreg.
+#[tactic(auto, unfolding(rules::specs::Data::entered, rules::specs::Work::put))]
 fn entered(regs: &mut [u32; REGISTERS])
-    ensures { (log : List ℕ) → view regs.new log ≡ dataRules.entered (view regs.old log) }
+    ensures { (log : Log) → view regs.new log ≡ dataRules.entered (view regs.old log) }
 {
     let n = regs[OREG];
     regs[AREG] = regs[IPTR_REG];
@@ -48,30 +51,33 @@ fn entered(regs: &mut [u32; REGISTERS])
 }
 
 // Stores the call frame and enters the procedure (000 1.11, call).
-pub fn call(regs: &mut [u32; REGISTERS], log: &mut [u32; LOG], mem: &[u32])
-    requires { Room 4 log.old }
-    ensures { (view regs.new log.new ≡ dataRules.call mem.now (view regs.old log.old)) × Grown 4 log.old log.new }
+#[tactic(auto, unfolding(rules::specs::Data::call))]
+pub fn call(plan: &mut Plan, mem: &[u32])
+    requires { Room 4 plan.old.log }
+    ensures { (work_of plan.new ≡ dataRules.call mem.now (work_of plan.old)) × Grown 4 plan.old.log plan.new.log }
 {
-    call_frame(regs, log, mem);
-    entered(regs);
+    call_frame(plan, mem);
+    entered(&mut plan.regs);
 }
 
 // Loads Iptr from the frame and moves Wptr above the frame (000 1.11, return).
-pub fn ret(regs: &mut [u32; REGISTERS], log: &mut [u32; LOG], mem: &[u32])
-    requires { Room 0 log.old }
-    ensures { (view regs.new log.new ≡ dataRules.ret mem.now (view regs.old log.old)) × Grown 0 log.old log.new }
+#[tactic(auto, unfolding(rules::specs::Data::ret))]
+pub fn ret(plan: &mut Plan, mem: &[u32])
+    requires { Room 0 plan.old.log }
+    ensures { (work_of plan.new ≡ dataRules.ret mem.now (work_of plan.old)) × Grown 0 plan.old.log plan.new.log }
 {
-    let wptr = regs[WDESC_REG] & WPTR_MASK;
-    r_index_word(regs, log, mem, wptr, 0, IPTR_REG);
-    adjusted(regs, FRAME_WORDS);
+    let wptr = plan.regs[WDESC_REG] & WPTR_MASK;
+    r_index_word(plan, mem, wptr, 0, IPTR_REG);
+    adjusted(&mut plan.regs, FRAME_WORDS);
 }
 
 // Jumps by the offset in local 0, which is that of the selected guard (000 1.11, alt end).
-pub fn altend(regs: &mut [u32; REGISTERS], log: &mut [u32; LOG], mem: &[u32])
-    requires { Room 0 log.old }
-    ensures { (view regs.new log.new ≡ dataRules.altend mem.now (view regs.old log.old)) × Grown 0 log.old log.new }
+#[tactic(auto, unfolding(rules::specs::Data::altend))]
+pub fn altend(plan: &mut Plan, mem: &[u32])
+    requires { Room 0 plan.old.log }
+    ensures { (work_of plan.new ≡ dataRules.altend mem.now (work_of plan.old)) × Grown 0 plan.old.log plan.new.log }
 {
-    let a = at_word(regs[WDESC_REG] & WPTR_MASK, 0);
-    let n = load_word(log, mem, a);
-    jump_by(regs, n);
+    let a = at_word(plan.regs[WDESC_REG] & WPTR_MASK, 0);
+    let n = load_word(&mut plan.log, mem, a);
+    jump_by(&mut plan.regs, n);
 }

@@ -1,4 +1,5 @@
 -- The effect of a commit: from the tests and results of the code, with the end of its record, and as the outcome of a call.
+use Rattle.std.specs.Prelude.{Ok, Err}
 use mathlib.Core.Path.{◌≡◌, refl, sym, ap, subst, ◌∙◌}
 use mathlib.Core.List.{List, [], ◌∷◌, ◌++◌}
 use Prim.Native.Nat.{ℕ, ◌+◌, ◌*◌, ◌≤◌, ◌<◌}
@@ -14,18 +15,19 @@ use Rattle.rules.proofs.Tests.{yes_eq, no_eq, yes_lt, no_lt, cases_eq, cases_lt}
 use Rattle.laws.specs.Answers.{Known}
 use Rattle.laws.proofs.Fine.{proper-refuse}
 use Rattle.journal_record.proofs.Written.{record_written}
+use Rattle.plan.specs.declared.Refusal.{Refusal}
 use Rattle.journal.specs.Effect.{Effect, refused_with, committed}
 
--- number, part and address of an effect are those of an answer
-abbrev KnownOf : Effect → Type 0
-KnownOf x = Known x.number x.part x.address
+-- number, part and address of a refusal are those of an answer
+abbrev KnownOf : Refusal → Type 0
+KnownOf r = Known r.number r.kind r.address
 
 module _ (words : List ℕ → List ℕ) (used : ℕ) (mem j : List ℕ) (number part address : ℕ) (ss : List Store) where
   abbrev ks : List ℕ
   ks = touched (length mem) ss
 
   abbrev done : Effect
-  done = record { number = 0; part = 0; address = 0; count = length ks; memory = stores mem ss; journal = sets j used (words ks) }
+  done = record { result = Ok (length ks); memory = stores mem ss; journal = sets j used (words ks) }
 
   -- ---- by the tests of the code
   pub committed-refused : (number ≡ 0 → ⊥) → refused_with number part address mem j ≡ committed words used mem j number part address ss
@@ -40,34 +42,49 @@ module _ (words : List ℕ → List ℕ) (used : ℕ) (mem j : List ℕ) (number
   unfolding committed
   committed-done h l = rw (yes_eq h, no_lt l)
 
-  -- ---- by the number of the effect: refused for one of two reasons, or done
+  -- ---- by the result: refused for one of two reasons, or done
   module _ (x : Effect) (e : x ≡ committed words used mem j number part address ss) where
-    pub by_number :
+    by_case :
         {P : Type 0}
         → ((number ≡ 0 → ⊥) → x ≡ refused_with number part address mem j → P)
         → (number ≡ 0 → length j < used + record_length (length ks) → x ≡ refused_with 12 0 0 mem j → P)
         → (number ≡ 0 → used + record_length (length ks) ≤ length j → x ≡ done → P)
         → P
-    by_number f g h =
+    by_case f g h =
         cases_eq number 0
         (λ z. cases_lt (length j) (used + record_length (length ks))
         (λ l. g z l (e ∙ sym (committed-full z l)))
         (λ l. h z l (e ∙ sym (committed-done z l))))
         (λ z. f z (e ∙ sym (committed-refused z)))
 
-    pub fits : x.number ≡ 0 → used + record_length x.count ≤ length j
-    fits n =
-        by_number
-        (λ z q. absurd (z (sym (ap (λ (y : Effect). y.number) q) ∙ n)))
-        (λ z l q. absurd (omega (arith, ap (λ (y : Effect). y.number) q, n)))
-        (λ z l q. omega (arith, l, ap (λ (y : Effect). y.count) q))
+    if_err :
+        {P : Type 0} (r : Refusal)
+        → x.result ≡ Err r
+        → ((number ≡ 0 → ⊥) → r ≡ record { number = number; kind = part; address = address } → x ≡ refused_with number part address mem j → P)
+        → (number ≡ 0 → length j < used + record_length (length ks) → r ≡ record { number = 12; kind = 0; address = 0 } → x ≡ refused_with 12 0 0 mem j → P)
+        → P
+    if_err r n f g =
+        by_case
+        (λ z q. f z (cc (ap (λ (y : Effect). y.result) q)) q)
+        (λ z l q. g z l (cc (ap (λ (y : Effect). y.result) q)) q)
+        (λ z l q. absurd (cc (ap (λ (y : Effect). y.result) q)))
 
-    pub told-known : Known number part address → Known x.number x.part x.address
-    told-known k =
-        by_number
-        (λ z q. subst KnownOf (sym q) k)
-        (λ z l q. subst KnownOf (sym q) (record { most = omega arith; proper = proper-refuse 12 (λ i. omega (arith, i)) }))
-        (λ z l q. subst KnownOf (sym q) (record { most = omega arith; proper = proper-refuse 0 (λ i. omega (arith, i)) }))
+    if_ok :
+        {P : Type 0} (n : ℕ)
+        → x.result ≡ Ok n
+        → (number ≡ 0 → used + record_length (length ks) ≤ length j → n ≡ length ks → x ≡ done → P)
+        → P
+    if_ok n k h =
+        by_case
+        (λ z q. absurd (cc (ap (λ (y : Effect). y.result) q)))
+        (λ z l q. absurd (cc (ap (λ (y : Effect). y.result) q)))
+        (λ z l q. h z l (cc (ap (λ (y : Effect). y.result) q)) q)
+
+    pub told-known : (r : Refusal) → x.result ≡ Err r → Known number part address → Known r.number r.kind r.address
+    told-known r n k =
+        if_err r n
+        (λ z p q. subst KnownOf (sym p) k)
+        (λ z l p q. subst KnownOf (sym p) (record { most = omega arith; proper = proper-refuse 12 (λ i. omega (arith, i)) }))
 
 -- ---- the end of the record
 module _ (old : List ℕ) (used : ℕ) (mem j : List ℕ) (number part address : ℕ) (ss : List Store) (x : Effect)
@@ -75,25 +92,21 @@ module _ (old : List ℕ) (used : ℕ) (mem j : List ℕ) (number part address :
   abbrev whole : Effect
   whole = committed (record_of mem old) used mem j number part address ss
 
-  pub ended-refused : (x.number ≡ 0 → ⊥) → x ≡ whole
-  ended-refused n =
-      by_number (olds mem) used mem j number part address ss x e
-      (λ z q. q ∙ committed-refused (record_of mem old) used mem j number part address ss z)
-      (λ z l q. q ∙ committed-full (record_of mem old) used mem j number part address ss z l)
-      (λ z l q. absurd (n (ap (λ (y : Effect). y.number) q)))
+  pub ended-refused : (r : Refusal) → x.result ≡ Err r → x ≡ whole
+  ended-refused r n =
+      if_err (olds mem) used mem j number part address ss x e r n
+      (λ z p q. q ∙ committed-refused (record_of mem old) used mem j number part address ss z)
+      (λ z l p q. q ∙ committed-full (record_of mem old) used mem j number part address ss z l)
 
   pub ended-done :
-      x.number ≡ 0
-      → record { number = x.number; part = x.part; address = x.address; count = x.count; memory = x.memory; journal = sets x.journal (used + 2 * x.count) (old ++ (x.count ∷ [])) } ≡ whole
-  ended-done n =
-      by_number (olds mem) used mem j number part address ss x e
-      (λ z q. absurd (z (sym (ap (λ (y : Effect). y.number) q) ∙ n)))
-      (λ z l q. absurd (omega (arith, ap (λ (y : Effect). y.number) q, n)))
-      (λ z l q.
-      ap (λ (y : Effect). record { number = y.number; part = y.part; address = y.address; count = y.count; memory = y.memory; journal = sets y.journal (used + 2 * y.count) (old ++ (y.count ∷ [])) }) q
-      ∙ ap (λ (k : List ℕ). record { number = 0; part = 0; address = 0; count = length (touched (length mem) ss); memory = stores mem ss; journal = k })
-      (record_written j mem old (touched (length mem) ss) used (length (touched (length mem) ss)) refl)
-      ∙ committed-done (record_of mem old) used mem j number part address ss z l)
+      (n : ℕ)
+      → x.result ≡ Ok n
+      → record { result = Ok n; memory = x.memory; journal = sets x.journal (used + 2 * n) (old ++ (n ∷ [])) } ≡ whole
+  ended-done n k =
+      if_ok (olds mem) used mem j number part address ss x e n k
+      (λ z l p q.
+      rw (q, p, record_written j mem old (touched (length mem) ss) used (length (touched (length mem) ss)) refl)
+      (committed-done (record_of mem old) used mem j number part address ss z l))
 
 -- ---- the outcome of a call
 module _ (m : Machine) (mem j : List ℕ) (byte : ℕ) (w : Work) (x : Effect)
@@ -101,22 +114,18 @@ module _ (m : Machine) (mem j : List ℕ) (byte : ℕ) (w : Work) (x : Effect)
   abbrev whole-call : Outcome
   whole-call = commit_or_refuse m mem j byte w
 
-  pub call-refused : (x.number ≡ 0 → ⊥) → refused_at x.number x.part x.address m x.memory x.journal ≡ whole-call
+  pub call-refused : (r : Refusal) → x.result ≡ Err r → refused_at r.number r.kind r.address m x.memory x.journal ≡ whole-call
   unfolding commit_or_refuse recorded
-  call-refused n =
-      by_number (record_of mem m.regs) m.used mem j w.answer w.kind w.address w.stored x e
-      (λ z q. ap (λ (y : Effect). refused_at y.number y.part y.address m y.memory y.journal) q ∙ rw (no_eq z))
-      (λ z l q. ap (λ (y : Effect). refused_at y.number y.part y.address m y.memory y.journal) q ∙ rw (yes_eq z, yes_lt l))
-      (λ z l q. absurd (n (ap (λ (y : Effect). y.number) q)))
+  call-refused r n =
+      if_err (record_of mem m.regs) m.used mem j w.answer w.kind w.address w.stored x e r n
+      (λ z p q. rw (q, p, no_eq z))
+      (λ z l p q. rw (q, p, yes_eq z, yes_lt l))
 
   pub call-done :
-      x.number ≡ 0
-      → accepted byte (machine_of w.regs (m.depth + 1) (m.used + record_length x.count)) x.memory x.journal ≡ whole-call
+      (n : ℕ)
+      → x.result ≡ Ok n
+      → accepted byte (machine_of w.regs (m.depth + 1) (m.used + record_length n)) x.memory x.journal ≡ whole-call
   unfolding commit_or_refuse recorded
-  call-done n =
-      by_number (record_of mem m.regs) m.used mem j w.answer w.kind w.address w.stored x e
-      (λ z q. absurd (z (sym (ap (λ (y : Effect). y.number) q) ∙ n)))
-      (λ z l q. absurd (omega (arith, ap (λ (y : Effect). y.number) q, n)))
-      (λ z l q.
-      ap (λ (y : Effect). accepted byte (machine_of w.regs (m.depth + 1) (m.used + record_length y.count)) y.memory y.journal) q
-      ∙ rw (yes_eq z, no_lt l))
+  call-done n k =
+      if_ok (record_of mem m.regs) m.used mem j w.answer w.kind w.address w.stored x e n k
+      (λ z l p q. rw (q, p, yes_eq z, no_lt l))

@@ -1,28 +1,24 @@
-// The checks before a call works: Size, BadChannel, JournalBad, in the order of 01's table. And a refusal by its number, part and address.
-ghost use Rattle.std.specs.Prelude.{◌≡◌, ◌||◌, ◌≤◌};
-ghost use Rattle.rules.specs.Work.{outside};
+// The checks before a call works: Size, BadChannel, JournalBad, in the order of 01's table. And the reply of a refused call.
+ghost use Rattle.std.specs.Prelude.{◌≡◌, ◌||◌};
 ghost use Rattle.rules.specs.Calls as calls;
 ghost use Rattle.laws.specs.Answers.{outside_answer, answer_of, Known};
 ghost use Rattle.journal.specs.Checks.{Refuses, RefusesAt, first_bad};
 
 use journal_record::bounds;
+use plan::Refusal;
 use rules::names::*;
 use rules::{Answer, Machine, Reply};
 
 // Tests for Size: memory is not 64 to 16,384 words, or the journal is over 65,536.
+#[tactic(auto, unfolding(rules::specs::Calls::memory_size_bad, rules::specs::Calls::journal_size_bad))]
 pub fn size_bad(memory: usize, journal: usize) -> bool
     ensures { result ≡ calls.memory_size_bad memory || calls.journal_size_bad journal }
 {
-    if memory < 64 {
-        return true;
-    }
-    if 16384 < memory {
-        return true;
-    }
-    65536 < journal
+    memory < 64 || 16384 < memory || 65536 < journal
 }
 
 // Tests for BadChannel of take: the output links are 0 to 3.
+#[tactic(auto, unfolding(rules::specs::Calls::not_output))]
 pub fn not_output(channel: u32) -> bool
     ensures { result ≡ calls.not_output channel }
 {
@@ -30,52 +26,57 @@ pub fn not_output(channel: u32) -> bool
 }
 
 // Tests for BadChannel of give: the input links are 4 to 7.
+#[tactic(auto, unfolding(rules::specs::Calls::not_input))]
 pub fn not_input(channel: u32) -> bool
     ensures { result ≡ calls.not_input channel }
 {
-    if channel < 4 {
-        return true;
-    }
-    8 <= channel
+    channel < 4 || 8 <= channel
 }
 
-// Returns the number of the first refusal that applies: Size, BadChannel (where wrong is true), JournalBad; else 0.
+// Returns the first refusal that applies: Size, BadChannel (where wrong is true), JournalBad.
 #[tactic(auto, unfolding(crate::specs::Checks::first_bad))]
-pub fn first_bad(wrong: bool, memory: usize, journal: usize, depth: usize, used: usize) -> u32
+pub fn first_bad(
+    wrong: bool,
+    memory: usize,
+    journal: usize,
+    depth: usize,
+    used: usize,
+) -> Option<Answer>
     ensures { result ≡ first_bad wrong memory journal depth used }
 {
     if size_bad(memory, journal) {
-        return 1;
+        return Some(Answer::Size);
     }
     if wrong {
-        return 3;
+        return Some(Answer::BadChannel);
     }
     if bounds::bounds_bad(journal, depth, used) {
-        return 4;
+        return Some(Answer::JournalBad);
     }
-    0
+    None
 }
 
-// Returns the answer of an access outside memory: 10a, 10b or 10c by its part, with the address.
-fn outside_of(part: u32, address: u32) -> Answer
-    ensures { result ≡ outside_answer part address }
+// Returns the answer of an access outside memory: 10a, 10b or 10c by its kind, with the address.
+// Kept, point 1: the kind comes out of the log of a plan, where it is a number (plan::Refusal).
+// Kept, point 4: a kind becomes a case of Answer that has the address too; no From takes both (d).
+#[tactic(auto, unfolding(rules::specs::Tests::if_eq))]
+fn outside_of(kind: u32, address: u32) -> Answer
+    ensures { result ≡ outside_answer kind address }
 {
-    if part == KIND_FETCH {
-        return Answer::OutsideFetch(address);
+    match kind {
+        KIND_FETCH => Answer::OutsideFetch(address),
+        KIND_LOAD => Answer::OutsideLoad(address),
+        _ => Answer::OutsideStore(address),
     }
-    if part == KIND_LOAD {
-        return Answer::OutsideLoad(address);
-    }
-    Answer::OutsideStore(address)
 }
 
-// Returns the answer with 01's number; of 10 that of its part, with the address.
-fn answer_of(number: u32, part: u32, address: u32) -> Answer
-    requires { number ≤ 12 }
-    ensures { result ≡ answer_of number part address }
+// Kept, point 4: no From, since numbers that are none of 01's have no answer, and the one caller knows that its number has (d).
+// Returns the answer with 01's number; of 10 that of its kind, with the address.
+#[tactic(auto, unfolding(laws::specs::Answers::answer_of, rules::specs::Tests::if_lt, rules::specs::Tests::if_eq))]
+fn answer_of(refusal: Refusal) -> Answer
+    ensures { result ≡ answer_of refusal.number refusal.kind refusal.address }
 {
-    match number {
-        0 => Answer::Done,
+    match refusal.number {
         1 => Answer::Size,
         2 => Answer::CodeSize,
         3 => Answer::BadChannel,
@@ -85,29 +86,28 @@ fn answer_of(number: u32, part: u32, address: u32) -> Answer
         7 => Answer::Idle,
         8 => Answer::NotReady,
         9 => Answer::Unlisted,
-        10 => outside_of(part, address),
+        10 => outside_of(refusal.kind, refusal.address),
         11 => Answer::Stop,
-        _ => Answer::JournalFull,
+        12 => Answer::JournalFull,
+        _ => Answer::Done,
     }
 }
 
-// Builds the reply of a call refused with a number, without an access: the machine unchanged, byte 0.
-pub fn refuse(m: Machine, number: u32) -> Reply
-    requires { (number ≤ 12) × (number ≡ outside → ⊥) }
-    ensures { Refuses number m result }
+// Builds the reply of a call refused with an answer: the machine unchanged, byte 0.
+pub fn refuse(m: Machine, answer: Answer) -> Reply
+    ensures { Refuses answer m result }
 {
-    refuse_at(m, number, 0, 0)
-}
-
-// Builds the reply of a call refused with a number, a part and an address: the machine unchanged, byte 0.
-pub fn refuse_at(m: Machine, number: u32, part: u32, address: u32) -> Reply
-    requires { Known number part address }
-    ensures { RefusesAt number part address m result }
-{
-    let answer = answer_of(number, part, address);
     Reply {
         machine: m,
         answer,
         byte: 0,
     }
+}
+
+// Builds the reply of a call whose plan was refused.
+pub fn refuse_at(m: Machine, refusal: Refusal) -> Reply
+    requires { Known refusal.number refusal.kind refusal.address }
+    ensures { RefusesAt refusal.number refusal.kind refusal.address m result }
+{
+    refuse(m, answer_of(refusal))
 }

@@ -9,19 +9,15 @@ use journal_record::bounds::EMPTY_RECORD;
 use rules::{Answer, Machine, REGISTERS, Reply};
 
 // Tests for JournalBad: one of the n pairs at a place has an index outside a memory of size words.
+// Kept, point 5: the clause relates a place, a number of pairs and a slice; no type holds the three (d).
 pub fn strays(journal: &[u32], at: usize, n: usize, size: usize) -> bool
     requires { at + 2 * n ≤ length journal.now }
     ensures { result ≡ journalRules.strays size (journalRules.pairs_at journal.now at n) }
 {
-    let mut w = at;
-    let mut left = n;
-    while 0 < left {
-        let i = journal[w] as usize;
-        if size <= i {
+    for k in 0..n {
+        if size <= journal[at + 2 * k] as usize {
             return true;
         }
-        w += 2;
-        left -= 1;
     }
     false
 }
@@ -31,14 +27,9 @@ pub fn write_back(mem: &mut [u32], journal: &[u32], at: usize, n: usize)
     requires { (at + 2 * n ≤ length journal.now) × (journalRules.strays (length mem.old) (journalRules.pairs_at journal.now at n) ≡ false) }
     ensures { mem.new ≡ journalRules.write_back mem.old (journalRules.pairs_at journal.now at n) }
 {
-    let mut w = at;
-    let mut left = n;
-    while 0 < left {
-        let i = journal[w] as usize;
-        let v = w + 1;
-        mem[i] = journal[v];
-        w += 2;
-        left -= 1;
+    for k in 0..n {
+        let w = at + 2 * k;
+        mem[journal[w] as usize] = journal[w + 1];
     }
 }
 
@@ -47,13 +38,9 @@ pub fn get_regs(journal: &[u32], at: usize) -> [u32; REGISTERS]
     requires { at + registers ≤ length journal.now }
     ensures { result ≡ take registers (drop at journal.now) }
 {
-    let mut regs = [0u32; REGISTERS];
-    let mut w = at;
-    let mut k = 0;
-    while k < REGISTERS {
-        regs[k] = journal[w];
-        w += 1;
-        k += 1;
+    let mut regs = [0; REGISTERS];
+    for k in 0..REGISTERS {
+        regs[k] = journal[at + k];
     }
     regs
 }
@@ -63,30 +50,23 @@ pub fn record_bad(journal: &[u32], used: usize, words: usize) -> bool
     requires { (0 < used) × (used ≤ length journal.now) }
     ensures { result ≡ record_bad journal.now used words }
 {
-    let last = used - 1;
-    let pairs = journal[last] as usize;
+    let pairs = journal[used - 1] as usize;
     let size = EMPTY_RECORD + 2 * pairs;
-    if used < size {
-        return true;
-    }
-    strays(journal, used - size, pairs, words)
+    used < size || strays(journal, used - size, pairs, words)
 }
 
 // Undoes the last record: restores registers and memory as before that call. Writes no journal word.
+#[tactic(auto, using(journal_record::proofs::JournalBounds::bounds_good))]
 pub fn undo_last(m: Machine, mem: &mut [u32], journal: &[u32]) -> Reply
     requires { (journalRules.bounds_bad (length journal.now) m.depth m.used ≡ false) × (0 < m.depth) × (record_bad journal.now m.used (length mem.old) ≡ false) }
     ensures { outcome_of result mem.new journal.now ≡ undo_last m mem.old journal.now }
 {
-    let used = m.used;
-    let depth = m.depth;
-    let last = used - 1;
-    let pairs = journal[last] as usize;
-    let start = used - (EMPTY_RECORD + 2 * pairs);
+    let pairs = journal[m.used - 1] as usize;
+    let start = m.used - (EMPTY_RECORD + 2 * pairs);
     write_back(mem, journal, start, pairs);
-    let regs = get_regs(journal, used - EMPTY_RECORD);
     let machine = Machine {
-        regs,
-        depth: depth - 1,
+        regs: get_regs(journal, m.used - EMPTY_RECORD),
+        depth: m.depth - 1,
         used: start,
     };
     Reply {

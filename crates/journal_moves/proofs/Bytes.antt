@@ -1,7 +1,7 @@
 -- One byte of a word, one byte of the memory, and a move of bytes, one after the other.
 use mathlib.Core.Path.{◌≡◌, refl}
 use mathlib.Core.List.{List}
-use Prim.Native.Nat.{ℕ, zero, suc, ◌+◌, ◌-◌, ◌*◌, ◌/◌, ◌%◌, ◌<◌}
+use Prim.Native.Nat.{ℕ, zero, suc, ◌+◌, ◌*◌, ◌/◌, ◌%◌, ◌<◌}
 use native.Mathlib.Nat.{suc-add, zero-add, add-zero}
 use native.Mathlib.Decide.{dec_lt, ℕ_discrete}
 use native.Mathlib.Omega.{arith}
@@ -73,15 +73,14 @@ moved-split (suc a) b m s d =
     rw (suc-add a b, ← e, ← f) (moved-split a b (set_byte_in m d (byte_in m s)) (s + 1) (d + 1))
 
 -- a turn of the code's loop: b is the byte read, w the word stored
-pub moved_cut :
-    (m : List ℕ) (s d n b w : ℕ)
-    → 0 < n
-    → b ≡ byte_of (s % 4) (get_or m (s / 4) 0)
-    → w ≡ with_byte (d % 4) b (get_or m (d / 4) 0)
-    → moved m s d n ≡ moved (set m (d / 4) w) (s + 1) (d + 1) (n - 1)
+pub moved_more :
+    (m₀ m : List ℕ) (s d k b w : ℕ)
+    → m ≡ moved m₀ s d k
+    → b ≡ byte_of ((s + k) % 4) (get_or m ((s + k) / 4) 0)
+    → w ≡ with_byte ((d + k) % 4) b (get_or m ((d + k) / 4) 0)
+    → set m ((d + k) / 4) w ≡ moved m₀ s d (k + 1)
 unfolding moved byte_in set_byte_in
-moved_cut m s d zero b w h e f = absurd (omega arith)
-moved_cut m s d (suc n) b w h e f = let g : suc n - 1 ≡ n = omega arith in rw (g, f, e)
+moved_more m₀ m s d k b w i e f = rw (moved-split k 1 m₀ s d, ← i, f, e)
 
 -- ---- words are below 2 ^ 32
 

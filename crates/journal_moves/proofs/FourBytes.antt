@@ -1,5 +1,5 @@
 -- A move of four bytes at a time is a move of four single bytes.
-use mathlib.Core.Path.{◌≡◌, refl, ap, ◌∙◌}
+use mathlib.Core.Path.{◌≡◌, refl, sym, ap, ◌∙◌}
 use mathlib.Core.List.{List}
 use Prim.Native.Nat.{ℕ, zero, suc, ◌+◌, ◌-◌, ◌*◌, ◌/◌, ◌%◌, ◌^◌, ◌≤◌, ◌<◌}
 use native.Mathlib.Nat.{mod-eq_of_lt}
@@ -10,7 +10,7 @@ use lib.Seq.{get_or-set_same, set-set}
 use Rattle.rules.specs.Words.{byte_of, with_byte}
 use Rattle.rules.specs.Memory.{byte_in, set_byte_in, moved}
 use Rattle.journal_moves.specs.Four.{four_bytes}
-use Rattle.journal_moves.proofs.Bytes.{byte_lt, byte-other, set-byte-length}
+use Rattle.journal_moves.proofs.Bytes.{byte_lt, byte-other, set-byte-length, moved-zero, moved-split}
 
 -- ---- a word from one or two words
 
@@ -187,18 +187,22 @@ four-moved k m s d z h g o =
     let d₄ : d + 1 + 1 + 1 + 1 ≡ d + 4 = omega arith in
     rw (e₁, e₂, e₃, s₄, d₄, four-sets m d b₀ b₁ b₂ b₃ z (omega arith) g k₀ k₁ k₂ k₃)
 
-pub words_cut :
-    (m : List ℕ) (s d n w : ℕ)
-    → 0 < n
+-- a turn of the code's loop: w is the word stored
+pub words_more :
+    (m₀ m : List ℕ) (s d k w : ℕ)
+    → m ≡ moved m₀ s d (4 * k)
     → d % 4 ≡ 0
-    → d + 4 * n ≤ 4 * length m
-    → get_or m (d / 4) 0 < 4294967296
+    → d + 4 * k + 4 ≤ 4 * length m
+    → get_or m (d / 4 + k) 0 < 4294967296
     → (s < d → s + 4 ≤ d)
-    → w ≡ four_bytes m s
-    → moved m s d (4 * n) ≡ moved (set m (d / 4) w) (s + 4) (d + 4) (4 * (n - 1))
-words_cut m s d n w p z h g o f =
-    let e : 4 * n ≡ suc (suc (suc (suc (4 * (n - 1))))) = omega arith in
-    rw (e, f) (four-moved (4 * (n - 1)) m s d z (omega arith) g o)
+    → w ≡ four_bytes m (s + 4 * k)
+    → set m (d / 4 + k) w ≡ moved m₀ s d (4 * (k + 1))
+words_more m₀ m s d k w i z h g o f =
+    let e : 4 * (k + 1) ≡ 4 * k + 4 = omega arith in
+    let p : (d + 4 * k) / 4 ≡ d / 4 + k = omega arith in
+    let four =
+    four-moved 0 m (s + 4 * k) (d + 4 * k) (omega arith) h (rw p g) (λ q. let r : s < d = omega arith in let t = o r in omega arith) in
+    rw (e, moved-split (4 * k) 4 m₀ s d, ← i, f) (sym (four ∙ moved-zero _ _ _ 0 refl ∙ rw p))
 
 pub four_lt : (m : List ℕ) (s : ℕ) → four_bytes m s < 4294967296
 unfolding four_bytes

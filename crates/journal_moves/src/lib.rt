@@ -7,22 +7,17 @@ ghost use Rattle.rules.specs.Memory.{moved};
 ghost use Rattle.journal_moves.specs.Four.{four_bytes};
 
 // Moves n bytes one by one.
+// Kept, point 5: the clauses relate two places, a number of bytes and memory; no type holds the four (d).
+#[tactic(auto, unfolding(rules::specs::Memory::moved))]
 fn move_bytes(mem: &mut [u32], src: usize, dst: usize, n: usize)
     requires { (src + n ≤ 4 * length mem.old) × (dst + n ≤ 4 * length mem.old) }
     ensures { mem.new ≡ moved mem.old src dst n }
 {
-    let mut s = src;
-    let mut d = dst;
-    let mut left = n;
-    while 0 < left {
-        let a = s / 4;
-        let b = words::byte_of((s % 4) as u32, mem[a]);
-        let e = d / 4;
-        let w = words::with_byte((d % 4) as u32, b, mem[e]);
-        mem[e] = w;
-        s += 1;
-        d += 1;
-        left -= 1;
+    for k in 0..n {
+        let s = src + k;
+        let d = dst + k;
+        let b = words::byte_of((s % 4) as u32, mem[s / 4]);
+        mem[d / 4] = words::with_byte((d % 4) as u32, b, mem[d / 4]);
     }
 }
 
@@ -43,31 +38,21 @@ fn four_bytes(mem: &[u32], s: usize) -> u32
     requires { s + 4 ≤ 4 * length mem.now }
     ensures { result ≡ four_bytes mem.now s }
 {
-    let a = s / 4;
-    let x = mem[a];
+    let x = mem[s / 4];
     if s % 4 == 0 {
         return x;
     }
-    let b = a + 1;
-    let y = mem[b];
-    straddle(s % 4, x, y)
+    straddle(s % 4, x, mem[s / 4 + 1])
 }
 
 // Moves 4 * n bytes to a word boundary, four at a time. A source below the destination must be at least a word below it.
+#[tactic(auto, unfolding(rules::specs::Memory::moved))]
 fn move_words(mem: &mut [u32], src: usize, dst: usize, n: usize)
     requires { (dst % 4 ≡ 0) × (src + 4 * n ≤ 4 * length mem.old) × (dst + 4 * n ≤ 4 * length mem.old) × (src < dst → src + 4 ≤ dst) }
     ensures { mem.new ≡ moved mem.old src dst (4 * n) }
 {
-    let mut s = src;
-    let mut d = dst;
-    let mut left = n;
-    while 0 < left {
-        let w = four_bytes(mem, s);
-        let e = d / 4;
-        mem[e] = w;
-        s += 4;
-        d += 4;
-        left -= 1;
+    for k in 0..n {
+        mem[dst / 4 + k] = four_bytes(mem, src + 4 * k);
     }
 }
 
@@ -85,6 +70,7 @@ fn move_aligned(mem: &mut [u32], src: usize, dst: usize, n: usize)
 }
 
 // Moves head bytes up to a word boundary, then rest bytes.
+// Kept, point 5: how source and target lie to one another is a fact of the two; no type holds them (d).
 fn move_parts(mem: &mut [u32], src: usize, dst: usize, head: usize, rest: usize)
     requires { ((dst + head) % 4 ≡ 0) × (src + (head + rest) ≤ 4 * length mem.old) × (dst + (head + rest) ≤ 4 * length mem.old) × (src < dst → src + 4 ≤ dst) }
     ensures { mem.new ≡ moved mem.old src dst (head + rest) }
@@ -101,15 +87,9 @@ pub fn move_fast(mem: &mut [u32], src: usize, dst: usize, n: usize)
     ensures { mem.new ≡ moved mem.old src dst n }
 {
     let head = (4 - dst % 4) % 4;
-    if n < head {
+    if n < head || src < dst && dst - src < 4 {
         move_bytes(mem, src, dst, n);
-        return;
+    } else {
+        move_parts(mem, src, dst, head, n - head);
     }
-    if src < dst {
-        if dst - src < 4 {
-            move_bytes(mem, src, dst, n);
-            return;
-        }
-    }
-    move_parts(mem, src, dst, head, n - head);
 }

@@ -20,10 +20,6 @@ same_test a b c d f g =
     ]
 
 module _ (size depth used : ℕ) where
-  pub bounds_long : size < used → true ≡ bounds_bad size depth used
-  unfolding bounds_bad
-  bounds_long h = rw (lt-ltb size used h)
-
   pub bounds_deep : used ≤ size → ltb (used / (registers + 1)) depth ≡ bounds_bad size depth used
   unfolding bounds_bad
   bounds_deep h =

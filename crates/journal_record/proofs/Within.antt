@@ -1,21 +1,13 @@
 -- The test that a move stays inside memory, of the code and of the definition.
 use mathlib.Core.Path.{◌≡◌, refl}
 use mathlib.Core.Bool.{Bool, true, false, ◌&&◌}
-use Prim.Native.Nat.{ℕ, ◌+◌, ◌*◌, ◌≤◌, ◌<◌}
+use Prim.Native.Nat.{ℕ, ◌+◌, ◌*◌, ◌≤◌}
 use native.Mathlib.Omega.{arith}
 use lib.Dec.{leb}
-use borrow.Author.Tests.{lt-leb, le-leb, leb-true}
+use borrow.Author.Tests.{leb-true}
 use Rattle.rules.specs.Memory.{within}
 
 module _ (size source target n : ℕ) where
-  pub source_out : 4 * size < source + n → false ≡ within size source target n
-  unfolding within
-  source_out h = rw (lt-leb (source + n) (4 * size) h)
-
-  pub source_in : source + n ≤ 4 * size → leb (target + n) (4 * size) ≡ within size source target n
-  unfolding within
-  source_in h = rw (le-leb (source + n) (4 * size) h)
-
   pub within-told : within size source target n ≡ true → (source + n ≤ 4 * size) × (target + n ≤ 4 * size)
   unfolding within
   within-told e =

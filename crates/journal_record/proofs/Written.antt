@@ -12,7 +12,7 @@ use Rattle.laws.proofs.Stores.{sets-append}
 use Rattle.laws.proofs.Touched.{length-olds}
 use Rattle.journal_record.specs.Indices.{range}
 use Rattle.journal_record.specs.Outline.{Outlined, listed}
-use Rattle.journal_record.specs.declared.touched.Outline.{Outline}
+use Rattle.journal_record.specs.declared.outline.Outline.{Outline}
 use Rattle.journal_record.proofs.Sorting.{range_length}
 
 -- ---- lists written one after the other
@@ -34,16 +34,16 @@ three-parts j m a b c at x y e f =
     (rw
     (olds-append m a (b ++ c), olds-append m b c, sets-append j at (olds m a) (olds m b ++ olds m c), p, sets-append (sets j at (olds m a)) (at + 2 * x) (olds m b) (olds m c), q))
 
-module _ (l : ℕ) (ix : List ℕ) (o : Outline) (h : Outlined l ix o) (lx : length ix ≡ 16) where
-  low-length : length (take o.low ix) ≡ o.low
-  low-length = length-take-le o.low ix (omega (arith, h.low))
+-- the pairs of an outline, in three parts
+module _ (l : ℕ) (o : Outline) (h : Outlined l o) (lx : length o.ix ≡ 16) where
+  low-length : length (take o.low o.ix) ≡ o.low
+  low-length = length-take-le o.low o.ix (omega arith)
 
-  -- the pairs of an outline, in three parts
   pub pairs_written :
       (j m : List ℕ) (at : ℕ)
-      → sets (sets (sets j at (olds m (take o.low ix))) (at + 2 * o.low) (olds m (range o.lo o.c))) (at + 2 * (o.low + o.c)) (olds m (slice o.mid o.end ix)) ≡ sets j at (olds m (listed ix o))
+      → sets (sets (sets j at (olds m (take o.low o.ix))) (at + 2 * o.low) (olds m (range o.span.lo o.span.c))) (at + 2 * (o.low + o.span.c)) (olds m (slice o.mid o.end o.ix)) ≡ sets j at (olds m (listed o))
   pairs_written j m at =
-      three-parts j m (take o.low ix) (range o.lo o.c) (slice o.mid o.end ix) at o.low o.c low-length (range_length o.lo o.c)
+      three-parts j m (take o.low o.ix) (range o.span.lo o.span.c) (slice o.mid o.end o.ix) at o.low o.span.c low-length (range_length o.span.lo o.span.c)
 
 -- the registers, then the number of pairs
 pub tail_written : (j regs : List ℕ) (at n : ℕ) → length regs ≡ registers → set (sets j at regs) (at + registers) n ≡ sets j at (regs ++ (n ∷ []))
@@ -64,15 +64,16 @@ record_written j mem regs ks used n e =
 -- ---- a turn of the loops that write pairs
 
 pub olds_turn :
-    (j m : List ℕ) (w k : ℕ) (ks : List ℕ)
-    → sets j w (olds m (k ∷ ks)) ≡ sets (set (set j w k) (w + 1) (get_or m k 0)) (w + 1 + 1) (olds m ks)
+    (j m : List ℕ) (w v k : ℕ) (ks : List ℕ)
+    → v ≡ w + 2
+    → sets (set (set j w k) (w + 1) (get_or m k 0)) v (olds m ks) ≡ sets j w (olds m (k ∷ ks))
 unfolding olds
-olds_turn j m w k ks = rw (add-one (w + 1), add-one w)
+olds_turn j m w v k ks e = let f : v ≡ suc (suc w) = omega arith in rw (f, add-one w)
 
 pub olds-done : (j m : List ℕ) (w : ℕ) → sets j w (olds m []) ≡ j
 unfolding olds
 olds-done j m w = refl
 
-pub range_cut : (a n : ℕ) → 0 < n → range a n ≡ a ∷ range (a + 1) (n - 1)
-range_cut a zero h = absurd (omega arith)
-range_cut a (suc n) h = let g : suc n - 1 ≡ n = omega arith in rw g
+pub range_turn : (a n b m : ℕ) → 0 < n → b ≡ a + 1 → m ≡ n - 1 → range a n ≡ a ∷ range b m
+range_turn a zero b m h e f = absurd (omega arith)
+range_turn a (suc n) b m h e f = let g : m ≡ n = omega arith in rw (e, g)

@@ -11,13 +11,11 @@ pub const EMPTY_RECORD: usize = REGISTERS + 1;
 pub fn bounds_bad(size: usize, depth: usize, used: usize) -> bool
     ensures { result ≡ journalRules.bounds_bad size depth used }
 {
-    if size < used {
-        return true;
-    }
-    used / EMPTY_RECORD < depth
+    size < used || used / EMPTY_RECORD < depth
 }
 
 // Tests for JournalFull: a record of n pairs does not fit after used. Compares with the room left, so that no sum wraps.
+// Kept, point 5: used is within the size beside it, and n bounds a product; no type says either (d).
 pub fn is_full(size: usize, used: usize, n: usize) -> bool
     requires { (used ≤ size) × (n ≤ 65536) }
     ensures { result ≡ ltb size (used + journalRules.record_length n) }

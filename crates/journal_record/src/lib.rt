@@ -3,6 +3,7 @@
 #![tactic(auto)]
 
 pub mod bounds; // bounds of used and depth, room for a record
+pub mod outline; // the words that a record lists
 pub mod touched; // the words that a plan stores to, rising
 pub mod parts; // writes the pairs and the registers
 pub mod record; // writes the end of a record

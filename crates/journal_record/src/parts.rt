@@ -1,90 +1,61 @@
 // The parts of a record (01, The journal): a pair for each word stored to, which is its index and its value before the call;
 // and the registers before the call.
-ghost use Rattle.std.specs.Prelude.{◌≡◌, ◌+◌, ◌-◌, ◌*◌, ◌≤◌, length, take};
+ghost use Rattle.std.specs.Prelude.{◌≡◌, ◌+◌, ◌*◌, ◌≤◌, length};
 ghost use Rattle.std.proofs.lemmas.List.Edits.{sets};
-ghost use Rattle.std.proofs.Math.Seq.{slice};
 ghost use Rattle.rules.specs.Registers.{registers};
 ghost use Rattle.rules.specs.Journal as journalRules;
 ghost use Rattle.laws.specs.Lists.{Below};
 ghost use Rattle.journal_record.specs.Indices.{range};
-ghost use Rattle.journal_record.specs.Outline.{Outlined, listed};
+ghost use Rattle.journal_record.specs.Outline.{Outlined, count_of, listed};
 
-use crate::touched::{Outline, whole_indices};
+use crate::outline::{Outline, Span};
 use rules::REGISTERS;
 
-// Writes the pairs of the words ix[f..t].
-fn put_single_pairs(journal: &mut [u32], mem: &[u32], ix: &[u32; 16], f: usize, t: usize, at: usize)
-    requires { (f ≤ t) × (t ≤ 16) × (at + 2 * (t - f) ≤ length journal.old) × Below (length mem.now) (slice f t ix.now) }
-    ensures { journal.new ≡ sets journal.old at (journalRules.olds mem.now (slice f t ix.now)) }
+// Writes the pairs of the words ks.
+fn put_single_pairs(journal: &mut [u32], mem: &[u32], ks: &[u32], at: usize)
+    requires { (at + 2 * length ks.now ≤ length journal.old) × Below (length mem.now) ks.now }
+    ensures { journal.new ≡ sets journal.old at (journalRules.olds mem.now ks.now) }
 {
-    whole_indices(ix);
-    let mut w = at;
-    let mut k = f;
-    while k < t {
-        let i = ix[k];
-        let a = i as usize;
-        journal[w] = i;
-        w += 1;
-        journal[w] = mem[a];
-        w += 1;
-        k += 1;
+    for (k, i) in ks.iter().enumerate() {
+        let w = at + 2 * k;
+        journal[w] = *i;
+        journal[w + 1] = mem[*i as usize];
     }
 }
 
-// Writes the pairs of the count words from index lo on.
-fn put_range_pairs(journal: &mut [u32], mem: &[u32], lo: usize, count: usize, at: usize)
-    requires { (lo + count ≤ length mem.now) × (length mem.now ≤ 16384) × (at + 2 * count ≤ length journal.old) }
-    ensures { journal.new ≡ sets journal.old at (journalRules.olds mem.now (range lo count)) }
+// Writes the pairs of the words of a span.
+// Kept, point 2: its indices are counted, those of put_single_pairs stand in a list; one function over both would take a closure with a contract (d).
+fn put_range_pairs(journal: &mut [u32], mem: &[u32], span: Span, at: usize)
+    requires { (span.lo + span.c ≤ length mem.now) × (at + 2 * span.c ≤ length journal.old) }
+    ensures { journal.new ≡ sets journal.old at (journalRules.olds mem.now (range span.lo span.c)) }
 {
-    let mut i = lo;
-    let mut w = at;
-    let mut left = count;
-    while 0 < left {
+    for k in 0..span.c {
+        let i = span.lo + k;
+        let w = at + 2 * k;
         journal[w] = i as u32;
-        w += 1;
-        journal[w] = mem[i];
-        w += 1;
-        i += 1;
-        left -= 1;
+        journal[w + 1] = mem[i];
     }
-}
-
-// Writes the pairs of the single words below the range, then of the range.
-fn put_front_pairs(journal: &mut [u32], mem: &[u32], ix: &[u32; 16], o: Outline, at: usize)
-    requires { Outlined (length mem.now) ix.now o × (length mem.now ≤ 16384) × (at + 2 * (o.low + o.c) ≤ length journal.old) }
-    ensures { journal.new ≡ sets (sets journal.old at (journalRules.olds mem.now (take o.low ix.now))) (at + 2 * o.low) (journalRules.olds mem.now (range o.lo o.c)) }
-{
-    let low = o.low;
-    let lo = o.lo;
-    let c = o.c;
-    let next = at + 2 * low;
-    put_single_pairs(journal, mem, ix, 0, low, at);
-    put_range_pairs(journal, mem, lo, c, next);
 }
 
 // Writes the pairs of all words of an outline.
-pub fn put_pairs(journal: &mut [u32], mem: &[u32], ix: &[u32; 16], o: Outline, at: usize)
-    requires { Outlined (length mem.now) ix.now o × (length mem.now ≤ 16384) × (at + 2 * o.count ≤ length journal.old) }
-    ensures { journal.new ≡ sets journal.old at (journalRules.olds mem.now (listed ix.now o)) }
+pub fn put_pairs(journal: &mut [u32], mem: &[u32], o: &Outline, at: usize)
+    requires { Outlined (length mem.now) o.now × (at + 2 * count_of o.now ≤ length journal.old) }
+    ensures { journal.new ≡ sets journal.old at (journalRules.olds mem.now (listed o.now)) }
 {
-    whole_indices(ix);
-    let mid = o.mid;
-    let end = o.end;
-    let next = at + 2 * (o.low + o.c);
-    put_front_pairs(journal, mem, ix, o, at);
-    put_single_pairs(journal, mem, ix, mid, end, next);
+    let span = at + 2 * o.low;
+    let above = span + 2 * o.span.c;
+    put_single_pairs(journal, mem, &o.ix[..o.low], at);
+    put_range_pairs(journal, mem, o.span, span);
+    put_single_pairs(journal, mem, &o.ix[o.mid..o.end], above);
 }
 
 // Writes the registers.
+// A for, and not copy_from_slice: that one copies the registers to the stack first, and tests for overlap.
 pub fn put_regs(journal: &mut [u32], regs: [u32; REGISTERS], at: usize)
     requires { at + registers ≤ length journal.old }
     ensures { journal.new ≡ sets journal.old at regs }
 {
-    let mut w = at;
-    let mut k = 0;
-    while k < REGISTERS {
-        journal[w] = regs[k];
-        w += 1;
-        k += 1;
+    for k in 0..REGISTERS {
+        journal[at + k] = regs[k];
     }
 }

@@ -1,19 +1,21 @@
 -- The record of a common step, and the outcome of its commit.
-use mathlib.Core.Path.{◌≡◌, refl, sym, ap}
+use mathlib.Core.Path.{◌≡◌, refl, sym, ap, ◌∙◌}
 use mathlib.Core.List.{List, [], ◌∷◌, ◌++◌}
 use Prim.Native.Nat.{ℕ, zero, suc, ◌+◌, ◌-◌, ◌*◌, ◌^◌, ◌≤◌, ◌<◌, min}
 use native.Mathlib.Omega.{arith}
 use native.Mathlib.Nat.{add-zero}
 use native.Mathlib.Numerals.{add-one}
-use lib.ListN.{length, get_or, set}
-use lib.Seq.{sets}
+use lib.ListN.{length, get_or, set, take, length-take}
+use lib.Seq.{sets, sets-eq, drop-drop}
+use Rattle.std.proofs.Common.{append_assoc}
+use borrow.Rule.Slice.PartMut.{put_mid}
 use Rattle.rules.specs.Registers.{with_core}
-use Rattle.rules.specs.Memory.{touched, stores}
+use Rattle.rules.specs.Memory.{Store, word, touched, stores}
 use Rattle.rules.specs.Journal.{record_length, olds, record_of}
 use Rattle.rules.specs.Work.{Work, begin}
 use Rattle.rules.specs.Calls.{refused, recorded, commit_or_refuse}
 use Rattle.rules.specs.declared.Machine.{Machine}
-use Rattle.rules.proofs.Tests.{yes_lt, no_lt, yes_eq, cases_lt, cases_eq}
+use Rattle.rules.proofs.Tests.{yes_lt, no_lt, yes_eq, cases_lt}
 use Rattle.step_fast.specs.declared.FastStep.{FastStep}
 use Rattle.step_fast.specs.Fast.{stores_of, fast_work}
 use Rattle.laws.proofs.Stores.{sets-append}
@@ -22,76 +24,64 @@ use Rattle.journal_record.specs.Indices.{range}
 use Rattle.journal_record.proofs.Sorting.{range_length}
 use Rattle.journal_record.proofs.Outcomes.{commit-full}
 use Rattle.laws.proofs.Touched.{length-olds}
-use Rattle.journal_small.specs.Count.{Counted, made}
+use Rattle.journal_small.specs.Kept.{Kept, frame_stores}
 use Rattle.journal_small.proofs.Frame.{touched-frame, made-frame}
 
 -- ---- the words that a common step stores to
 
-module _ (size : ℕ) (t : FastStep) where
-  pub counted_none : t.stores ≡ 0 → Counted size t 0
-  unfolding made
-  counted_none e =
-      record {
-        few = omega arith;
-        inside = omega arith;
-        indices = λ k. absurd (omega arith);
-        touches = λ r. rw e (sym (touched_none size));
-        makes = λ r m h. rw e (sym (stores_no m));
-      }
+-- where the words touched are the n from word i on
+pub kept : (m m₁ j j₁ : List ℕ) (at : ℕ) (made : List Store) (i n : ℕ) → n ≤ 4
+    → touched (length m) made ≡ range i n → m₁ ≡ stores m made → j₁ ≡ sets j at (olds m (range i n)) → Kept m j at made n m₁ j₁
+kept m m₁ j j₁ at made i n few t v p =
+    record { few = few; number = rw t (range_length i n); pairs = rw t p; values = v }
 
-  pub counted-one : t.stores ≡ 1 → t.index < size → Counted size t 1
-  unfolding made
-  counted-one e h =
-      record {
-        few = omega arith;
-        inside = omega arith;
-        indices = λ k. absurd (omega arith);
-        touches = λ r. rw e (sym (touched-one size t.index t.value h));
-        makes = λ r m l. rw e (sym (stores_one m t.index t.value));
-      }
+pub kept-none : (m j : List ℕ) (at : ℕ) (made : List Store) → touched (length m) made ≡ [] → stores m made ≡ m → Kept m j at made 0 m j
+unfolding olds
+kept-none m j at made t v = kept m m j j at made 0 0 (omega arith) t (sym v) refl
 
-  counted_past-one : t.stores ≡ 1 → size ≤ t.index → Counted size t 0
-  unfolding made
-  counted_past-one e h =
-      record {
-        few = omega arith;
-        inside = omega arith;
-        indices = λ k. absurd (omega arith);
-        touches = λ r. rw e (sym (touched_past size t.index t.value h));
-        makes = λ r m l. rw e (sym (stores_past m t.index t.value (omega arith)));
-      }
+pub kept-nothing : (m j : List ℕ) (at : ℕ) → Kept m j at [] 0 m j
+kept-nothing m j at = kept-none m j at [] (touched_none (length m)) (stores_no m)
 
-  -- a frame: n words of it are inside
-  module _ (k : ℕ) (e : t.stores ≡ suc (suc k)) where
-    pub counted-frame : (n : ℕ) → t.index < 2 ^ 32 - 3 → n ≡ min 4 (size - t.index) → Counted size t n
-    counted-frame n f g =
-        record {
-          few = omega arith;
-          inside = omega arith;
-          indices = λ h. omega arith;
-          touches = λ r. rw (e, yes_lt f) (sym (touched-frame size t.index t.value _ _ _ n g));
-          makes = λ r m l. rw (e, yes_lt f) (made-frame m t.index t.value _ _ _ n (omega arith));
-        }
+pub kept-one : (m j j₁ : List ℕ) (at i v : ℕ) → i < length m → j₁ ≡ sets j at (i ∷ get_or m i 0 ∷ []) → Kept m j at (word i v ∷ []) 1 (set m i v) j₁
+unfolding olds
+kept-one m j j₁ at i v h p =
+    kept m (set m i v) j j₁ at (word i v ∷ []) i 1 (omega arith) (touched-one (length m) i v h) (sym (stores_one m i v)) p
 
-    pub counted_no-frame : 2 ^ 32 - 3 ≤ t.index → Counted size t 0
-    unfolding made
-    counted_no-frame f =
-        record {
-          few = omega arith;
-          inside = omega arith;
-          indices = λ h. absurd (omega arith);
-          touches = λ r. rw (e, no_lt f) (sym (touched_none size));
-          makes = λ r m l. rw (e, no_lt f) (sym (stores_no m));
-        }
+pub kept-past : (m j : List ℕ) (at i v : ℕ) → length m ≤ i → Kept m j at (word i v ∷ []) 0 m j
+kept-past m j at i v h = kept-none m j at (word i v ∷ []) (touched_past (length m) i v h) (stores_past m i v h)
 
-  pub counted_past : (t.stores ≡ 0 → ⊥) → size ≤ t.index → Counted size t 0
-  counted_past n h =
-      cases_eq t.stores 1
-      (λ e. counted_past-one e h)
-      (λ o. let k : t.stores ≡ suc (suc (t.stores - 2)) = omega arith in
-      cases_lt t.index (2 ^ 32 - 3)
-      (λ f. counted-frame (t.stores - 2) k 0 f (omega arith))
-      (λ f. counted_no-frame (t.stores - 2) k f))
+-- a copy to the words from word i on
+pub copied : (m vs ys : List ℕ) (i n k l : ℕ) → k ≡ n → l ≡ n → n ≤ length vs → i + n ≤ length m → ys ≡ take l vs → put_mid i k m ys ≡ sets m i (take n vs)
+copied m vs ys i n k l e f h g p =
+    let t : length (take n vs) ≡ n = omega (arith, length-take n vs) in
+    rw (e, p, f, sets-eq (take n vs) m i (omega arith), t, drop-drop, append_assoc)
+
+-- the four words of a frame
+pub four-words : (f : List ℕ) → length f ≡ 4 → f ≡ get_or f 0 0 ∷ get_or f 1 0 ∷ get_or f 2 0 ∷ get_or f 3 0 ∷ []
+four-words [] h = absurd (omega arith)
+four-words (v ∷ []) h = absurd (omega arith)
+four-words (v ∷ a ∷ []) h = absurd (omega arith)
+four-words (v ∷ a ∷ b ∷ []) h = absurd (omega arith)
+four-words (v ∷ a ∷ b ∷ c ∷ []) h = refl
+four-words (v ∷ a ∷ b ∷ c ∷ d ∷ f) h = absurd (omega arith)
+
+module _ (m j : List ℕ) (at i : ℕ) (f : List ℕ) where
+  pub kept-frame : (m₁ j₁ : List ℕ) (n : ℕ) → length f ≡ 4 → i < 2 ^ 32 - 3 → n ≡ min 4 (length m - i)
+      → m₁ ≡ sets m i (take n f) → j₁ ≡ sets j at (olds m (range i n)) → Kept m j at (frame_stores i f) n m₁ j₁
+  kept-frame m₁ j₁ n l g e v p =
+      let made = made-frame m i (get_or f 0 0) (get_or f 1 0) (get_or f 2 0) (get_or f 3 0) n e in
+      rw (yes_lt g)
+      (kept m m₁ j j₁ at _ i n (omega arith) (touched-frame (length m) i _ _ _ _ n e) (v ∙ (rw (← four-words f l) at made)) p)
+
+  pub no-frame : 2 ^ 32 - 3 ≤ i → Kept m j at (frame_stores i f) 0 m j
+  no-frame g = rw (no_lt g) (kept-nothing m j at)
+
+  pub frame-past : length f ≡ 4 → length m ≤ i → Kept m j at (frame_stores i f) 0 m j
+  unfolding olds
+  frame-past l h =
+      cases_lt i (2 ^ 32 - 3)
+      (λ g. kept-frame m j 0 l g (omega arith) refl refl)
+      no-frame
 
 -- ---- the words written
 
@@ -102,50 +92,15 @@ olds_last m (suc k) i =
     let e : i + 1 + k ≡ i + suc k = omega arith in
     ap (λ (r : List ℕ). i ∷ get_or m i 0 ∷ r) (rw e at (olds_last m k (i + 1)))
 
-pub pairs-none : (j m : List ℕ) (i at n : ℕ) → n ≡ 0 → j ≡ sets j at (olds m (range i n))
-unfolding olds
-pairs-none j m i at n e = rw e
-
-pub pairs-one : (j j₁ m : List ℕ) (i at n : ℕ) → n ≡ 1 → j₁ ≡ sets j at (i ∷ get_or m i 0 ∷ []) → j₁ ≡ sets j at (olds m (range i n))
-unfolding olds
-pairs-one j j₁ m i at n e f = rw e f
-
 -- one pair more
 pub pairs-more :
-    (j j₁ j₂ m : List ℕ) (i at k n : ℕ)
-    → n ≡ suc k
+    (j j₁ j₂ m : List ℕ) (i at k : ℕ)
     → j₁ ≡ sets j at (olds m (range i k))
     → j₂ ≡ sets j₁ (at + 2 * k) ((i + k) ∷ get_or m (i + k) 0 ∷ [])
-    → j₂ ≡ sets j at (olds m (range i n))
-pairs-more j j₁ j₂ m i at k n e f g =
+    → j₂ ≡ sets j at (olds m (range i (k + 1)))
+pairs-more j j₁ j₂ m i at k f g =
     let l : at + length (olds m (range i k)) ≡ at + 2 * k = omega (arith, length-olds m (range i k), range_length i k) in
-    rw (e, olds_last m k i, sets-append j at (olds m (range i k)) ((i + k) ∷ get_or m (i + k) 0 ∷ []), l, ← f) g
-
-module _ (m : List ℕ) (i v a b c n : ℕ) where
-  pub made_none : n ≡ 0 → m ≡ made n i v a b c m
-  unfolding made
-  made_none e = rw e
-
-  pub made_one : n ≡ 1 → set m i v ≡ made n i v a b c m
-  unfolding made
-  made_one e = rw e
-
-  pub made_two : n ≡ 2 → set (set m i v) (i + 1) a ≡ made n i v a b c m
-  unfolding made
-  made_two e = rw (e, add-one i)
-
-  pub made_three : n ≡ 3 → set (set (set m i v) (i + 1) a) (i + 2) b ≡ made n i v a b c m
-  unfolding made
-  made_three e =
-      let e₂ : i + 2 ≡ suc (suc i) = omega arith in
-      rw (e, add-one i, e₂)
-
-  pub made_four : n ≡ 4 → set (set (set (set m i v) (i + 1) a) (i + 2) b) (i + 3) c ≡ made n i v a b c m
-  unfolding made
-  made_four e =
-      let e₂ : i + 2 ≡ suc (suc i) = omega arith in
-      let e₃ : i + 3 ≡ suc (suc (suc i)) = omega arith in
-      rw (e, add-one i, e₂, e₃)
+    rw (add-one k, olds_last m k i, sets-append j at (olds m (range i k)) ((i + k) ∷ get_or m (i + k) 0 ∷ []), l, ← f) g
 
 -- ---- the outcome of a common step
 

@@ -12,7 +12,6 @@ use Rattle.rules.specs.Memory.{Store, touches, hit, touched_from, touched, store
 use Rattle.rules.proofs.Tests.{cases_eq}
 use Rattle.step_fast.specs.Fast.{frame}
 use Rattle.journal_record.specs.Indices.{range}
-use Rattle.journal_small.specs.Count.{made}
 
 -- ---- the words touched
 
@@ -96,8 +95,7 @@ module _ (m : List ℕ) (i v a b c : ℕ) where
         store_below m (a ∷ b ∷ c ∷ []) (suc i) i v (omega arith),
       )
 
-  pub made-frame : (n : ℕ) → n ≡ min 4 (length m - i) → made n i v a b c m ≡ stores m (frame i v a b c)
-  unfolding made
+  pub made-frame : (n : ℕ) → n ≡ min 4 (length m - i) → sets m i (take n (v ∷ a ∷ b ∷ c ∷ [])) ≡ stores m (frame i v a b c)
   made-frame n e =
       cases_eq n 4
       (λ h. rw (h, rising))

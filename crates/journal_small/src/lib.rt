@@ -6,18 +6,22 @@
 ghost use Rattle.std.specs.Prelude.{◌≡◌, false, not, [], ◌∷◌, ◌+◌, ◌-◌, ◌*◌, ◌^◌, ◌<◌, ◌≤◌, ltb, length, get_or};
 ghost use Rattle.std.proofs.lemmas.List.Edits.{sets};
 ghost use Rattle.rules.specs.Registers.{with_core};
+ghost use Rattle.rules.specs.Memory.{word};
 ghost use Rattle.rules.specs.Work.{begin};
 ghost use Rattle.rules.specs.Journal.{record_length, olds, bounds_bad};
 ghost use Rattle.rules.specs.Calls.{outcome_of, commit_or_refuse};
-ghost use Rattle.step_fast.specs.Fast.{fast_work};
+ghost use Rattle.step_fast.specs.Fast.{stores_of, fast_work};
 ghost use Rattle.journal_record.specs.Indices.{range};
-ghost use Rattle.journal_small.specs.Count.{Counted, made};
+ghost use Rattle.journal_small.specs.Kept.{Kept, frame_stores};
 
 use journal_record::bounds::{EMPTY_RECORD, is_full};
 use journal_record::record::put_tail;
 use rules::names::*;
 use rules::{Answer, Core, Machine, REGISTERS, Reply};
-use step_fast::FastStep;
+use step_fast::{FastStep, Stored};
+
+// The words of a frame.
+const FRAME_WORDS: usize = 4;
 
 // The most pairs that the record of a common step has: the frame of a call.
 const MOST_PAIRS: usize = 4;
@@ -51,65 +55,74 @@ fn put_pair(journal: &mut [u32], mem: &[u32], i: u32, at: usize)
     journal[next] = mem[k];
 }
 
-// Counts the words inside memory that the step stores to.
-fn count(t: FastStep, size: usize) -> usize
-    ensures { Counted size t result }
+// Writes the pairs of the n words from word i on.
+fn put_pairs(journal: &mut [u32], mem: &[u32], n: usize, i: u32, at: usize)
+    requires { (i + n ≤ length mem.now) × (i + n ≤ 2 ^ 32) × (at + 2 * n ≤ length journal.old) }
+    ensures { journal.new ≡ sets journal.old at (olds mem.now (range i n)) }
 {
-    let stores = t.stores;
-    let at = t.index as usize;
-    if stores == 0 {
-        return 0;
+    for k in 0..n {
+        put_pair(journal, mem, i + k as u32, at + 2 * k);
     }
-    if at < size {
-        if stores == 1 {
-            return 1;
-        }
-        if t.index < FRAME_LIMIT {
-            if size - at < 4 {
-                return size - at;
-            }
-            return 4;
-        }
-        return 0;
+}
+
+// Stores a value in word index, after its pair; outside memory does nothing. Returns the number of pairs.
+fn store_word(journal: &mut [u32], mem: &mut [u32], index: u32, value: u32, at: usize) -> usize
+    requires { at + 2 ≤ length journal.old }
+    ensures { Kept mem.old journal.old at (word index value ∷ []) result mem.new journal.new }
+{
+    let i = index as usize;
+    if i < mem.len() {
+        put_pair(journal, mem, index, at);
+        mem[i] = value;
+        return 1;
     }
     0
 }
 
-// Writes the pairs of the n words from word i on.
-fn put_pairs(journal: &mut [u32], mem: &[u32], n: usize, i: u32, at: usize)
-    requires { (n ≤ 4) × (at + 2 * n ≤ length journal.old) × (n ≤ length mem.now - i) × (1 < n → i + 3 < 2 ^ 32) }
-    ensures { journal.new ≡ sets journal.old at (olds mem.now (range i n)) }
+// Stores the words of a frame from word index on, as far as memory goes, after their pairs; does nothing where an index would be no word. Returns
+// the number of pairs.
+fn store_frame(
+    journal: &mut [u32],
+    mem: &mut [u32],
+    index: u32,
+    frame: [u32; FRAME_WORDS],
+    at: usize,
+) -> usize
+    requires { at + 8 ≤ length journal.old }
+    ensures { Kept mem.old journal.old at (frame_stores index frame) result mem.new journal.new }
 {
-    if 0 < n {
-        put_pair(journal, mem, i, at);
-        if 1 < n {
-            put_pair(journal, mem, i + 1, at + 2);
-            if 2 < n {
-                put_pair(journal, mem, i + 2, at + 4);
-                if 3 < n {
-                    put_pair(journal, mem, i + 3, at + 6);
-                }
-            }
-        }
+    let i = index as usize;
+    if FRAME_LIMIT <= index || mem.len() <= i {
+        return 0;
     }
+    let n = (mem.len() - i).min(FRAME_WORDS);
+    put_pairs(journal, mem, n, index, at);
+    mem[i..i + n].copy_from_slice(&frame[..n]);
+    n
 }
 
-// Stores the first n of v, a, b and c in the words from word i on.
-fn store_words(mem: &mut [u32], n: usize, i: u32, v: u32, a: u32, b: u32, c: u32)
-    requires { (n ≤ 4) × (n ≤ length mem.old - i) }
-    ensures { mem.new ≡ made n i v a b c mem.old }
+// Stores what a common step stores, after the pairs of the words; regs are the registers before the step. Returns the number of pairs.
+fn store(
+    journal: &mut [u32],
+    mem: &mut [u32],
+    t: FastStep,
+    regs: &[u32; REGISTERS],
+    at: usize,
+) -> usize
+    requires { at + 8 ≤ length journal.old }
+    ensures { Kept mem.old journal.old at (stores_of regs.now t) result mem.new journal.new }
 {
-    if 0 < n {
-        let k = i as usize;
-        mem[k] = v;
-        if 1 < n {
-            mem[k + 1] = a;
-            if 2 < n {
-                mem[k + 2] = b;
-                if 3 < n {
-                    mem[k + 3] = c;
-                }
-            }
+    match t.stored {
+        Stored::Nothing => 0,
+        Stored::Word { index, value } => store_word(journal, mem, index, value, at),
+        Stored::Frame { index, value } => {
+            store_frame(
+                journal,
+                mem,
+                index,
+                [value, regs[AREG], regs[BREG], regs[CREG]],
+                at,
+            )
         }
     }
 }
@@ -136,12 +149,9 @@ pub fn commit_common(m: Machine, t: FastStep, mem: &mut [u32], journal: &mut [u3
     ensures { outcome_of result mem.new journal.new ≡ commit_or_refuse m mem.old journal.old 0 (fast_work m.regs t) }
 {
     let used = m.used;
-    let n = count(t, mem.len());
     let old = m.regs;
-    let at = used + 2 * n;
-    put_pairs(journal, mem, n, t.index, used);
-    store_words(mem, n, t.index, t.value, old[AREG], old[BREG], old[CREG]);
-    put_tail(journal, old, n as u32, at);
+    let n = store(journal, mem, t, &old, used);
+    put_tail(journal, old, n as u32, used + 2 * n);
     let regs = with_core(old, t.core);
     let machine = Machine {
         regs,

@@ -13,7 +13,7 @@ use Rattle.rules.specs.Words.{index, offset, selector, at_byte, at_word, byte_of
 use Rattle.rules.specs.Memory.{Store, word, bytes}
 use Rattle.rules.specs.Work.{Access, Trace, untraced, traced, Work, put, raise, lower, goto_snp, put_core, put_system, put_both, outside, stop, kind_fetch, kind_load, kind_store, refuse, append, attempted, word_at, byte_at, access, fetch_byte, read_word, store_word, store_byte, r_index_word, r_index_byte, w_index_word, first_outside, up_to_outside, move_accesses, move_outside, move_or_refuse, transfer}
 use Rattle.rules.specs.declared.Core.{Core}
-use Rattle.rules.specs.declared.Attempt.{Attempt}
+use Rattle.std.specs.Prelude.{Option, Some, None}
 use Rattle.rules.specs.declared.Both.{Both}
 use Rattle.rules.proofs.Tests.{yes_lt, no_lt, yes_eq, no_eq, cases_lt, cases_eq}
 use Rattle.laws.specs.Alike.{Ordinary, StoreInside, Unrefused, Alike, beyond, refused, same}
@@ -153,9 +153,10 @@ module _ {A : ℕ → Type 0} where
   pub lawful-stop : A stop → Law A (λ mem. refuse stop)
   lawful-stop s = lawful-refuse stop s (omega arith)
 
-  pub lawful-attempted : (a : Attempt) → A stop → Law A (λ mem. attempted a)
+  pub lawful-attempted : (a : Option Core) → A stop → Law A (λ mem. attempted a)
   unfolding attempted
-  lawful-attempted a s = law (λ w. lawful-pick a.stops ((lawful-stop s).at w) ((lawful-put_core _).at w))
+  lawful-attempted None s = law (lawful-stop s).at
+  lawful-attempted (Some c) s = law (lawful-put_core c).at
 
 -- ---- accesses
 

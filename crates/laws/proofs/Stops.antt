@@ -12,12 +12,13 @@ use Rattle.rules.specs.Tests.{pick, if_lt, look}
 use Rattle.rules.specs.Words.{at_word, later}
 use Rattle.rules.specs.Stack as stack
 use Rattle.rules.specs.Registers.{areg, breg, creg, clock_reg, flags_reg, channel_reg, t_enabled, core_of, run_request, ready_request}
-use Rattle.rules.specs.Work.{Work, reg, put, lower, wptr, priority, stop, unlisted, refuse, put_core, attempted, on_attempt, word_at, read_word, r_index_word}
+use Rattle.rules.specs.Work.{Work, reg, put, lower, wptr, priority, stop, unlisted, refuse, attempted, on_attempt, word_at, read_word, r_index_word}
 use Rattle.rules.specs.Scheduling.{enabling, waiting, ready, time_set, time_not_set, port_base, pointer_s, tlink_s, time_s}
 use Rattle.rules.specs.Timers.{next_time, insert_first_step, delete_first_step, tin, taltwt_time, taltwt_link, taltwt_state, taltwt, enbt_link, enbt_guard, enbt, dist_set, dist_link, dist, timer_status, timer_wake, timer_front, timer_serve, handle_timer_request}
 use Rattle.rules.specs.Channels.{ready_status, ready_content, handle_ready_request, handle_channel_request}
 use Rattle.rules.specs.Operations.{register_operations, other_operations, operations, operate}
-use Rattle.rules.specs.declared.Attempt.{Attempt}
+use Rattle.std.specs.Prelude.{Option, Some, None, is_none}
+use Rattle.rules.specs.declared.Core.{Core}
 use Rattle.rules.proofs.Tests.{yes_lt, no_lt, yes_eq, no_eq, cases_eq, cases_lt}
 use Rattle.laws.specs.Alike.{Ordinary}
 use Rattle.laws.specs.Ring.{is_outside}
@@ -46,16 +47,13 @@ or-false false = refl
 
 -- ---- shifts
 
-attempt-stops : (t : Attempt) {w : Work} → Begun w → Tells t.stops (attempted t w)
+attempt-stops : (t : Option Core) {w : Work} → Begun w → Tells (is_none t) (attempted t w)
 unfolding attempted
-attempt-stops t {w} b = go t.stops
-  where
-    go : (s : Bool) → Tells s (pick s (refuse stop w) (put_core t.core w))
-    go true = tells-stop w b.none
-    go false = tells_calm (fine-put_core t.core (calm b))
+attempt-stops None {w} b = tells-stop w b.none
+attempt-stops (Some s) b = tells_calm (fine-put_core s (calm b))
 
 -- an operation that Stops above a count
-stops_above : (n count : ℕ) (x y : Attempt) → x.stops ≡ true → y.stops ≡ false → ltb n count ≡ (if_lt n count x y).stops
+stops_above : (n count : ℕ) (x y : Option Core) → is_none x ≡ true → is_none y ≡ false → ltb n count ≡ is_none (if_lt n count x y)
 stops_above n count x y p q =
     cases_lt n count
     (λ h. rw (yes_lt h, lt-ltb n count h) (sym p))

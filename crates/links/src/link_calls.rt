@@ -1,101 +1,102 @@
 // Take, give and event, on a plan (01, Links, clocks, slice). An `in` that finds something held uses receive and event_meets.
 ghost use Rattle.std.specs.Prelude.{◌≡◌, List, ℕ, ◌<◌};
-ghost use Rattle.rules.specs.Registers as registers;
 ghost use Rattle.rules.specs.Links as links;
-ghost use Rattle.plan.specs.View.{view, Room, Grown};
+ghost use Rattle.plan.specs.View.{work_of, view, Room, Grown};
+ghost use Rattle.plan.specs.declared.Log.{Log};
 
 use crate::transfers::{advance, hold, moving, notice_held, transfer_ends};
 use memory::loads::{byte_at, load_byte};
 use memory::store::store_byte;
-use plan::{LOG, raise, refuse};
+use plan::channel::Channel;
+use plan::{Plan, raise, refuse};
 use rules::REGISTERS;
 use rules::names::*;
 
 // Ends the moving transfer of the event channel: sets its count to 0 and leaves its pointer.
+#[tactic(auto, unfolding(rules::specs::Links::event_meets, rules::specs::Work::put))]
 pub fn event_meets(regs: &mut [u32; REGISTERS])
-    ensures { (log : List ℕ) → view regs.new log ≡ links.event_meets (view regs.old log) }
+    ensures { (log : Log) → view regs.new log ≡ links.event_meets (view regs.old log) }
 {
-    regs[EVENT_COUNT_REG] = 0;
-    transfer_ends(regs, EVENT_CHANNEL);
+    let c = Channel::event();
+    regs[c.count()] = 0;
+    transfer_ends(regs, c);
 }
 
 // Holds the event: sets held and leaves the byte bits.
+#[tactic(auto, unfolding(rules::specs::Links::event_holds))]
 pub fn event_holds(regs: &mut [u32; REGISTERS])
-    ensures { (log : List ℕ) → view regs.new log ≡ links.event_holds (view regs.old log) }
+    ensures { (log : Log) → view regs.new log ≡ links.event_holds (view regs.old log) }
 {
-    raise(regs, EVENT_CHANNEL_REG, HELD_BIT);
-    notice_held(regs, EVENT_CHANNEL);
+    let c = Channel::event();
+    raise(regs, c.flags(), HELD_BIT);
+    notice_held(regs, c);
 }
 
 // Ends a moving transfer, else holds the event; refuses with NOT_READY where one is held.
-pub fn event(regs: &mut [u32; REGISTERS], log: &mut [u32; LOG])
-    ensures { (view regs.new log.new ≡ links.event (view regs.old log.old)) × Grown 0 log.old log.new }
+pub fn event(plan: &mut Plan)
+    ensures { (work_of plan.new ≡ links.event (work_of plan.old)) × Grown 0 plan.old.log plan.new.log }
 {
-    if moving(regs, EVENT_CHANNEL) {
-        event_meets(regs);
-        return;
+    let c = Channel::event();
+    if moving(&plan.regs, c) {
+        event_meets(&mut plan.regs);
+    } else if plan.regs[c.flags()] & HELD_BIT == 0 {
+        event_holds(&mut plan.regs);
+    } else {
+        refuse(&mut plan.log, NOT_READY);
     }
-    if regs[EVENT_CHANNEL_REG] & HELD_BIT == 0 {
-        event_holds(regs);
-        return;
-    }
-    refuse(log, NOT_READY);
 }
 
 // Reads the byte at the pointer, which take hands over.
-pub fn taken(regs: &[u32; REGISTERS], log: &[u32; LOG], mem: &[u32], c: usize) -> u32
-    requires { (c < registers.link_chans) × Room 0 log.now }
-    ensures { (result ≡ links.taken mem.now c (view regs.now log.now)) × (result < 256) }
+#[tactic(auto, unfolding(rules::specs::Links::taken))]
+pub fn taken(plan: &Plan, mem: &[u32], c: Channel) -> u32
+    requires { Room 0 plan.now.log }
+    ensures { (result ≡ links.taken mem.now c (work_of plan.now)) × (result < 256) }
 {
-    let p = POINTER_REG + 3 * c;
-    byte_at(log, mem, regs[p])
+    byte_at(&plan.log, mem, plan.regs[c.pointer()])
 }
 
 // Loads the byte at the pointer and advances the transfer.
-pub fn take_byte(regs: &mut [u32; REGISTERS], log: &mut [u32; LOG], mem: &[u32], c: usize)
-    requires { (c < registers.link_chans) × Room 0 log.old }
-    ensures { (view regs.new log.new ≡ links.take_byte mem.now c (view regs.old log.old)) × Grown 0 log.old log.new }
+#[tactic(auto, unfolding(rules::specs::Links::take_byte))]
+pub fn take_byte(plan: &mut Plan, mem: &[u32], c: Channel)
+    requires { Room 0 plan.old.log }
+    ensures { (work_of plan.new ≡ links.take_byte mem.now c (work_of plan.old)) × Grown 0 plan.old.log plan.new.log }
 {
-    let p = POINTER_REG + 3 * c;
-    load_byte(log, mem, regs[p]);
-    advance(regs, c);
+    load_byte(&mut plan.log, mem, plan.regs[c.pointer()]);
+    advance(&mut plan.regs, c);
 }
 
 // Takes a byte from a moving link; refuses with NOT_READY where the link is not moving.
-pub fn take(regs: &mut [u32; REGISTERS], log: &mut [u32; LOG], mem: &[u32], c: usize)
-    requires { (c < registers.link_chans) × Room 0 log.old }
-    ensures { (view regs.new log.new ≡ links.take mem.now c (view regs.old log.old)) × Grown 0 log.old log.new }
+pub fn take(plan: &mut Plan, mem: &[u32], c: Channel)
+    requires { Room 0 plan.old.log }
+    ensures { (work_of plan.new ≡ links.take mem.now c (work_of plan.old)) × Grown 0 plan.old.log plan.new.log }
 {
-    if moving(regs, c) {
-        take_byte(regs, log, mem, c);
-        return;
+    if moving(&plan.regs, c) {
+        take_byte(plan, mem, c);
+    } else {
+        refuse(&mut plan.log, NOT_READY);
     }
-    refuse(log, NOT_READY);
 }
 
 // Stores the byte at the pointer and advances the transfer.
-pub fn receive(regs: &mut [u32; REGISTERS], log: &mut [u32; LOG], mem: &[u32], c: usize, byte: u32)
-    requires { (c < registers.link_chans) × (byte < 256) × Room 1 log.old }
-    ensures { (view regs.new log.new ≡ links.receive mem.now c byte (view regs.old log.old)) × Grown 1 log.old log.new }
+#[tactic(auto, unfolding(rules::specs::Links::receive))]
+pub fn receive(plan: &mut Plan, mem: &[u32], c: Channel, byte: u32)
+    requires { (byte < 256) × Room 1 plan.old.log }
+    ensures { (work_of plan.new ≡ links.receive mem.now c byte (work_of plan.old)) × Grown 1 plan.old.log plan.new.log }
 {
-    let p = POINTER_REG + 3 * c;
-    store_byte(log, mem, regs[p], byte);
-    advance(regs, c);
+    store_byte(&mut plan.log, mem, plan.regs[c.pointer()], byte);
+    advance(&mut plan.regs, c);
 }
 
 // Gives a byte to a moving link, else holds the byte; refuses with NOT_READY where one is held.
-pub fn give(regs: &mut [u32; REGISTERS], log: &mut [u32; LOG], mem: &[u32], c: usize, byte: u32)
-    requires { (c < registers.link_chans) × (byte < 256) × Room 1 log.old }
-    ensures { (view regs.new log.new ≡ links.give mem.now c byte (view regs.old log.old)) × Grown 1 log.old log.new }
+pub fn give(plan: &mut Plan, mem: &[u32], c: Channel, byte: u32)
+    requires { (byte < 256) × Room 1 plan.old.log }
+    ensures { (work_of plan.new ≡ links.give mem.now c byte (work_of plan.old)) × Grown 1 plan.old.log plan.new.log }
 {
-    if moving(regs, c) {
-        receive(regs, log, mem, c, byte);
-        return;
+    if moving(&plan.regs, c) {
+        receive(plan, mem, c, byte);
+    } else if plan.regs[c.flags()] & HELD_BIT == 0 {
+        hold(&mut plan.regs, c, byte);
+    } else {
+        refuse(&mut plan.log, NOT_READY);
     }
-    let k = CHANNEL_REG + 3 * c;
-    if regs[k] & HELD_BIT == 0 {
-        hold(regs, c, byte);
-        return;
-    }
-    refuse(log, NOT_READY);
 }

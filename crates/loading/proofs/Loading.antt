@@ -1,38 +1,20 @@
 -- Fresh: the memory that the loop fills, and the size of code that fits.
-use mathlib.Core.Path.{◌≡◌, refl, sym, ap, ◌∙◌}
+use mathlib.Core.Path.{◌≡◌, refl, ap, ◌∙◌}
 use mathlib.Core.Bool.{Bool, true, false, ◌||◌}
 use mathlib.Core.List.{List, append-nil}
-use Prim.Native.Nat.{ℕ, zero, suc, ◌+◌, ◌-◌, ◌*◌, ◌≤◌, ◌<◌}
-use native.Mathlib.Decide.{dec_lt}
+use Prim.Native.Nat.{ℕ, zero, suc, ◌+◌, ◌-◌, ◌≤◌, ◌<◌}
 use native.Mathlib.Omega.{arith}
 use native.Mathlib.Numerals.{add-one}
-use lib.Dec.{ltb, leb, eqb}
-use lib.ListN.{length, get_or, set, drop_of_length-le, get_or-eq_default}
+use lib.Dec.{leb, eqb}
+use lib.ListN.{length, set, drop_of_length-le}
 use lib.Seq.{sets, sets-eq}
-use borrow.Author.Tests.{lt-ltb, le-ltb, le-leb, lt-leb, eq-eqb, ne_eqb, leb-false}
+use borrow.Author.Tests.{leb-false}
 use Rattle.rules.specs.Scheduling.{mem_start_word}
 use Rattle.rules.specs.Calls.{refused, accepted, machine_of, memory_size_bad, journal_size_bad, size_bad, code_bad, code_words, fresh_word, fresh_memory, fresh_regs, no_machine, fresh}
 
 -- ---- the code's size
 
 module _ (size n : ℕ) where
-  pub code-none : n ≡ 0 → true ≡ code_bad size n
-  unfolding code_bad
-  code-none e = rw (eq-eqb n 0 e)
-
-  pub code-some : (n ≡ 0 → ⊥) → 64 ≤ size → ltb (4 * (size - mem_start_word - 1)) n ≡ code_bad size n
-  unfolding code_bad
-  code-some e h =
-      rw (ne_eqb n 0 e)
-      (elim (dec_lt (4 * (size - mem_start_word - 1)) n) [
-        | yes p ↦
-            let q : size ≤ mem_start_word + code_words n = omega arith in
-            rw (lt-ltb (4 * (size - mem_start_word - 1)) n p, le-leb size (mem_start_word + code_words n) q)
-        | no p ↦
-            let q : mem_start_word + code_words n < size = omega arith in
-            rw (le-ltb (4 * (size - mem_start_word - 1)) n (omega arith), lt-leb size (mem_start_word + code_words n) q)
-      ])
-
   pub code_good : code_bad size n ≡ false → mem_start_word + code_words n < size
   unfolding code_bad
   code_good e = leb-false size (mem_start_word + code_words n) (second (eqb n 0) (leb size (mem_start_word + code_words n)) e)
@@ -40,9 +22,6 @@ module _ (size n : ℕ) where
       second : (a b : Bool) → a || b ≡ false → b ≡ false
       second true b e = let z : ◌≡◌ {A = ℕ} 0 1 = cc in absurd (omega arith)
       second false b e = e
-
-pub past_end : (code : List ℕ) (k : ℕ) → length code ≤ k → 0 ≡ get_or code k 0
-past_end code k h = sym (get_or-eq_default code 0 {n = k} h)
 
 -- ---- the memory
 
@@ -52,17 +31,14 @@ fresh-length code i zero = refl
 fresh-length code i (suc n) = ap suc (fresh-length code (i + 1) n)
 
 pub fresh_turn :
-    (code mem : List ℕ) (i n w : ℕ)
+    (code mem : List ℕ) (i n m w : ℕ)
     → 0 < n
+    → m ≡ n - 1
     → w ≡ fresh_word code i
-    → sets mem i (fresh_memory code i n) ≡ sets (set mem i w) (i + 1) (fresh_memory code (i + 1) (n - 1))
+    → sets (set mem i w) (i + 1) (fresh_memory code (i + 1) m) ≡ sets mem i (fresh_memory code i n)
 unfolding fresh_memory
-fresh_turn code mem i zero w h e = absurd (omega arith)
-fresh_turn code mem i (suc n) w h e = let g : suc n - 1 ≡ n = omega arith in rw (g, e, add-one i)
-
-pub fresh-none : (code mem : List ℕ) (i n : ℕ) → n ≡ 0 → sets mem i (fresh_memory code i n) ≡ mem
-unfolding fresh_memory
-fresh-none code mem i n e = rw e
+fresh_turn code mem i zero m w h f e = absurd (omega arith)
+fresh_turn code mem i (suc n) m w h f e = let g : m ≡ n = omega arith in rw (g, e, add-one i)
 
 pub fresh_all : (code mem : List ℕ) (n : ℕ) → length mem ≡ n → sets mem 0 (fresh_memory code 0 n) ≡ fresh_memory code 0 n
 fresh_all code mem n e =

@@ -1,5 +1,4 @@
 pub mod Bytes
-pub mod Held
 pub mod Logged
 pub mod Moved
 pub mod Reached

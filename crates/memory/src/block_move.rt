@@ -4,15 +4,15 @@ ghost use Rattle.rules.specs.Work as work;
 ghost use Rattle.plan.specs.View.{view, count_of, Room, Ended};
 ghost use Rattle.memory.specs.Places as places;
 
-use plan::{LOG, append_move, refuse_at};
+use plan::{Log, append_move, refuse_at};
 use rules::names::*;
 use words::{at_byte, offset};
 
-// The first access of a move outside memory; kind 0 where all are inside.
-#[derive(Clone, Copy)]
-pub struct First {
-    pub kind: u32,
-    pub address: u32,
+// An access of a move outside memory, with its address.
+#[derive(Clone, Copy, PartialEq, Eq, Debug)]
+pub enum Outside {
+    Load(u32),
+    Store(u32),
 }
 
 // Counts the bytes from address a, at most n, before the first one outside memory.
@@ -36,41 +36,31 @@ fn reach(mem: &[u32], a: u32, n: u32) -> u32
 }
 
 // Finds the first access of a move outside memory. Each byte is loaded and then stored, in rising order: at the same byte the load comes first.
-pub fn move_outside(mem: &[u32], source: u32, destination: u32, n: u32) -> First
-    ensures { (result.kind, result.address) ≡ work.move_outside mem.now source destination n }
+pub fn move_outside(mem: &[u32], source: u32, destination: u32, n: u32) -> Option<Outside>
+    ensures { places.told result ≡ work.move_outside mem.now source destination n }
 {
     let s = reach(mem, source, n);
     let d = reach(mem, destination, n);
     if d < s {
-        return First {
-            kind: KIND_STORE,
-            address: at_byte(destination, d),
-        };
+        return Some(Outside::Store(at_byte(destination, d)));
     }
     if s < n {
-        return First {
-            kind: KIND_LOAD,
-            address: at_byte(source, s),
-        };
+        return Some(Outside::Load(at_byte(source, s)));
     }
-    First {
-        kind: 0,
-        address: 0,
-    }
+    None
 }
 
 // Moves n bytes, or refuses the first access outside memory; a count of 0 moves nothing.
-pub fn transfer(log: &mut [u32; LOG], mem: &[u32], source: u32, destination: u32, n: u32)
+pub fn transfer(log: &mut Log, mem: &[u32], source: u32, destination: u32, n: u32)
     requires { Room 0 log.old × (count_of log.old ≡ 0) }
     ensures { ((regs : List ℕ) → view regs log.new ≡ work.transfer mem.now source destination n (view regs log.old)) × Ended 0 log.old log.new }
 {
     if n == 0 {
         return;
     }
-    let first = move_outside(mem, source, destination, n);
-    if first.kind == 0 {
-        append_move(log, offset(source), offset(destination), n);
-        return;
+    match move_outside(mem, source, destination, n) {
+        None => append_move(log, offset(source), offset(destination), n),
+        Some(Outside::Load(address)) => refuse_at(log, OUTSIDE, KIND_LOAD, address),
+        Some(Outside::Store(address)) => refuse_at(log, OUTSIDE, KIND_STORE, address),
     }
-    refuse_at(log, OUTSIDE, first.kind, first.address);
 }

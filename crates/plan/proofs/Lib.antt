@@ -1,2 +1,2 @@
-pub mod Laws
+pub mod Decided
 pub mod Logged

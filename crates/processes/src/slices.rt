@@ -1,64 +1,67 @@
 // TimeSlice (000 1.9; 01, Links, clocks, slice; DECISIONS 24), and jump, which ends with TimeSlice.
 ghost use Rattle.std.specs.Prelude.{◌≡◌};
-ghost use Rattle.plan.specs.View.{view, Room, Grown};
+ghost use Rattle.plan.specs.View.{work_of, Room, Grown};
 ghost use Rattle.rules.specs.Scheduling as scheduling;
 
-use plan::{LOG, goto_snp};
-use rules::REGISTERS;
+use plan::{Plan, goto_snp};
 use rules::names::*;
 use scheduling::running::run;
 use scheduling::stopping::save_iptr;
 use words::at_byte;
 
 // Ends the slice (000 1.9): saves Iptr, calls Run on the process and sets GotoSNPBit.
-fn slice_out(regs: &mut [u32; REGISTERS], log: &mut [u32; LOG], mem: &[u32])
-    requires { Room 8 log.old }
-    ensures { (view regs.new log.new ≡ scheduling.slice_out mem.now (view regs.old log.old)) × Grown 8 log.old log.new }
+#[tactic(auto, unfolding(rules::specs::Scheduling::slice_out))]
+fn slice_out(plan: &mut Plan, mem: &[u32])
+    requires { Room 8 plan.old.log }
+    ensures { (work_of plan.new ≡ scheduling.slice_out mem.now (work_of plan.old)) × Grown 8 plan.old.log plan.new.log }
 {
-    let wdesc = regs[WDESC_REG];
-    save_iptr(regs, log, mem);
-    run(regs, log, mem, wdesc);
-    goto_snp(regs);
+    let wdesc = plan.regs[WDESC_REG];
+    save_iptr(plan, mem);
+    run(plan, mem, wdesc);
+    goto_snp(&mut plan.regs);
 }
 
 // Ends a slice of 1,024 ticks or more.
-fn slice_if_long(regs: &mut [u32; REGISTERS], log: &mut [u32; LOG], mem: &[u32])
-    requires { Room 8 log.old }
-    ensures { (view regs.new log.new ≡ scheduling.slice_if_long mem.now (view regs.old log.old)) × Grown 8 log.old log.new }
+#[tactic(auto, using(plan::proofs::Decided::tests), unfolding(rules::specs::Scheduling::slice_if_long))]
+fn slice_if_long(plan: &mut Plan, mem: &[u32])
+    requires { Room 8 plan.old.log }
+    ensures { (work_of plan.new ≡ scheduling.slice_if_long mem.now (work_of plan.old)) × Grown 8 plan.old.log plan.new.log }
 {
-    if SLICE_LENGTH <= regs[SLICE_REG] {
-        slice_out(regs, log, mem);
+    if SLICE_LENGTH <= plan.regs[SLICE_REG] {
+        slice_out(plan, mem);
     }
 }
 
 // Ends a slice only while the clocks run.
-fn slice_if_running(regs: &mut [u32; REGISTERS], log: &mut [u32; LOG], mem: &[u32])
-    requires { Room 8 log.old }
-    ensures { (view regs.new log.new ≡ scheduling.slice_if_running mem.now (view regs.old log.old)) × Grown 8 log.old log.new }
+// Kept, point 2: time_slice is the IF around this one; each is a test of its own definition (d).
+#[tactic(auto, using(plan::proofs::Decided::tests), unfolding(rules::specs::Scheduling::slice_if_running))]
+fn slice_if_running(plan: &mut Plan, mem: &[u32])
+    requires { Room 8 plan.old.log }
+    ensures { (work_of plan.new ≡ scheduling.slice_if_running mem.now (work_of plan.old)) × Grown 8 plan.old.log plan.new.log }
 {
-    if regs[FLAGS_REG] & CLOCKS_RUN == 0 {
-        return;
+    if plan.regs[FLAGS_REG] & CLOCKS_RUN != 0 {
+        slice_if_long(plan, mem);
     }
-    slice_if_long(regs, log, mem);
 }
 
 // TimeSlice (000 1.9): ends the slice of a low process that has run for long enough.
-pub fn time_slice(regs: &mut [u32; REGISTERS], log: &mut [u32; LOG], mem: &[u32])
-    requires { Room 8 log.old }
-    ensures { (view regs.new log.new ≡ scheduling.time_slice mem.now (view regs.old log.old)) × Grown 8 log.old log.new }
+#[tactic(auto, using(plan::proofs::Decided::tests), unfolding(rules::specs::Scheduling::time_slice))]
+pub fn time_slice(plan: &mut Plan, mem: &[u32])
+    requires { Room 8 plan.old.log }
+    ensures { (work_of plan.new ≡ scheduling.time_slice mem.now (work_of plan.old)) × Grown 8 plan.old.log plan.new.log }
 {
-    if regs[WDESC_REG] & PRIORITY_MASK == 0 {
-        return;
+    if plan.regs[WDESC_REG] & PRIORITY_MASK != 0 {
+        slice_if_running(plan, mem);
     }
-    slice_if_running(regs, log, mem);
 }
 
 // Jumps by Oreg, then TimeSlice (000 1.11, jump).
-pub fn j(regs: &mut [u32; REGISTERS], log: &mut [u32; LOG], mem: &[u32])
-    requires { Room 8 log.old }
-    ensures { (view regs.new log.new ≡ scheduling.j mem.now (view regs.old log.old)) × Grown 8 log.old log.new }
+#[tactic(auto, unfolding(rules::specs::Scheduling::j, rules::specs::Work::put))]
+pub fn j(plan: &mut Plan, mem: &[u32])
+    requires { Room 8 plan.old.log }
+    ensures { (work_of plan.new ≡ scheduling.j mem.now (work_of plan.old)) × Grown 8 plan.old.log plan.new.log }
 {
-    let iptr = at_byte(regs[IPTR_REG], regs[OREG]);
-    regs[IPTR_REG] = iptr;
-    time_slice(regs, log, mem);
+    let iptr = at_byte(plan.regs[IPTR_REG], plan.regs[OREG]);
+    plan.regs[IPTR_REG] = iptr;
+    time_slice(plan, mem);
 }

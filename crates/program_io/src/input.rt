@@ -8,6 +8,7 @@ pub fn read_full(rt: &HostRuntime, buf: &mut [u8]) -> usize
     ensures { result ≤ length buf.new }
 {
     let mut done = 0;
+    // Kept, point 3: the place moves on by as much as a read gives, so no iterator counts it.
     while done < buf.len() {
         let got = read_some(rt, &mut buf[done..]);
         if got == 0 {

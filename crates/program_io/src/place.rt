@@ -1,33 +1,63 @@
-// Reading and writing of t414_batch: the place in its input and output buffers, and the reasons to stop.
-ghost use Rattle.std.specs.Prelude.{◌≡◌, ◌+◌, ◌<◌, ◌≤◌, length};
-ghost use Rattle.program_io.specs.Sizes.{most_words, most_journal, most_response};
+// Reading and writing of t414_batch: the places in its input and output buffers, and its report.
+ghost use Rattle.std.specs.Prelude.{◌≡◌, ◌+◌, ◌-◌, ◌*◌, ◌≤◌, length, slice_range};
+ghost use Rattle.program_io.specs.Sizes.{response_head, most_response};
 
-use crate::bytes::move_down;
 use crate::case;
-use crate::case::respond;
+use crate::case::Fault;
 use rules::Reply;
 use std::io::Read;
 
-// input[at..end] is not answered yet, output[..out] is not written yet, and count cases are answered.
-#[derive(Clone, Copy)]
-pub struct Place {
+// The input: the bytes at..end of the buffer are read, and not answered yet.
+#[derive(Drop)]
+pub struct Input<'a> {
+    pub buffer: &'a mut [u8],
     pub at: usize,
     pub end: usize,
-    pub out: usize,
-    pub count: u64,
-    pub state: u32,
+    ghost within: { (at ≤ end) × (end ≤ length buffer.now) },
 }
 
-// Returns the place where the program begins: nothing is read.
-pub fn start() -> Place
-    ensures { (result.at ≡ 0) × (result.end ≡ 0) × (result.out ≡ 0) }
-{
-    Place {
-        at: 0,
-        end: 0,
-        out: 0,
-        count: 0,
-        state: case::LOOK,
+impl<'a> Input<'a> {
+    // Makes the input of which nothing is read yet.
+    // Kept, point 2: the other one makes Output; each sets the fields of its own type (d).
+    pub fn new(buffer: &'a mut [u8]) -> Input<'a>
+        ensures { (result.at ≡ 0) × (result.end ≡ 0) × (result.buffer.now ≡ buffer.old) }
+    {
+        Input {
+            buffer,
+            at: 0,
+            end: 0,
+        }
+    }
+
+    // Returns the bytes that are not answered yet.
+    pub fn unanswered(&self) -> &[u8]
+        ensures bytes { result.now ≡ slice_range self.now.buffer.now self.now.at self.now.end }
+        ensures length { length result.now ≡ self.now.end - self.now.at }
+    {
+        &self.buffer[self.at..self.end]
+    }
+
+    // Leaves the first size bytes behind, which are answered.
+    pub fn answered(&mut self, size: usize)
+        requires { self.old.at + size ≤ self.old.end }
+        ensures { (self.new.at ≡ self.old.at + size) × (self.new.end ≡ self.old.end) }
+    {
+        self.at += size;
+    }
+
+    // Moves the bytes left to the front of the buffer and reads more after them; returns false at the end of the input.
+    pub fn refill(&mut self, rt: &HostRuntime) -> Result<bool, Fault>
+        ensures { self.new.at ≡ 0 }
+    {
+        let kept = self.end - self.at;
+        self.buffer.copy_within(self.at..self.end, 0);
+        let got = read_some(rt, &mut self.buffer[kept..]);
+        self.at = 0;
+        self.end = kept + got;
+        if got == 0 && kept > 0 {
+            return Err(Fault::CutShort);
+        }
+        Ok(got > 0)
     }
 }
 
@@ -35,161 +65,69 @@ pub fn start() -> Place
 pub(crate) fn read_some(rt: &HostRuntime, buf: &mut [u8]) -> usize
     ensures { result ≤ length buf.new }
 {
-    match rt.stdin().read(buf) {
-        Ok(got) => got,
-        Err(_) => 0,
+    rt.stdin().read(buf).unwrap_or(0)
+}
+
+// The output: the first used bytes of the buffer are not written yet; count cases are answered.
+#[derive(Drop)]
+pub struct Output<'a> {
+    pub buffer: &'a mut [u8],
+    pub used: usize,
+    pub count: u64,
+    ghost within: { used ≤ length buffer.now },
+}
+
+impl<'a> Output<'a> {
+    // Makes the output that has no response yet.
+    pub fn new(buffer: &'a mut [u8]) -> Output<'a>
+        ensures { (result.used ≡ 0) × (result.count ≡ 0) × (result.buffer.now ≡ buffer.old) }
+    {
+        Output {
+            buffer,
+            used: 0,
+            count: 0,
+        }
     }
-}
 
-// Returns the state after a read of got bytes, where kept bytes were left.
-fn after_read(kept: usize, got: usize) -> u32 {
-    if got > 0 {
-        case::LOOK
-    } else if kept > 0 {
-        case::CUT_SHORT
-    } else {
-        case::ENDED
+    // Writes the response to a case behind the others.
+    pub fn respond(&mut self, r: Reply, mem: &[u32], journal: &[u32])
+        requires { self.old.used + response_head + 4 * length mem.now + 4 * length journal.now ≤ length self.old.buffer.now }
+        ensures used { self.new.used ≡ self.old.used + response_head + 4 * length mem.now + 4 * length journal.now }
+        ensures length { length self.new.buffer.now ≡ length self.old.buffer.now }
+    {
+        self.used += case::respond(r, mem, journal, &mut self.buffer[self.used..]);
+        self.count = self.count.wrapping_add(1);
     }
-}
 
-// Where input is wanted, moves the bytes left to the front of the buffer and reads more after them.
-fn refill(rt: &HostRuntime, p: Place, input: &mut [u8]) -> Place
-    requires { (p.at ≤ p.end) × (p.end ≤ length input.old) }
-    ensures { (result.at ≤ result.end) × (result.end ≤ length input.new) × (result.out ≡ p.out) }
-{
-    if p.state != case::READ {
-        return p;
+    // Writes the responses on standard output.
+    fn flush(&mut self, rt: &HostRuntime) -> Result<(), Fault>
+        ensures { (self.new.used ≡ 0) × (length self.new.buffer.now ≡ length self.old.buffer.now) }
+    {
+        let used = self.used;
+        self.used = 0;
+        rt.write_all(&self.buffer[..used])
+            .map_err(|_| Fault::Unwritten)
     }
-    let at = p.at;
-    let kept = p.end - at;
-    move_down(input, at, kept);
-    let got = read_some(rt, &mut input[kept..]);
-    let state = after_read(kept, got);
-    Place {
-        at: 0,
-        end: kept + got,
-        out: p.out,
-        count: p.count,
-        state,
+
+    // Writes the responses where the longest one would not fit behind them.
+    pub fn make_room(&mut self, rt: &HostRuntime) -> Result<(), Fault>
+        requires { most_response ≤ length self.old.buffer.now }
+        ensures { self.new.used + most_response ≤ length self.new.buffer.now }
+    {
+        if self.buffer.len() - self.used < case::MOST_RESPONSE {
+            return self.flush(rt);
+        }
+        Ok(())
     }
-}
 
-// Writes the responses in the output buffer.
-fn flush(rt: &HostRuntime, p: Place, output: &[u8]) -> Place
-    requires { p.out ≤ length output.now }
-    ensures { (result.at ≡ p.at) × (result.end ≡ p.end) × (result.out ≡ 0) }
-{
-    let out = p.out;
-    let done = rt.write_all(&output[..out]).is_ok();
-    let state = if done { p.state } else { case::UNWRITTEN };
-    Place {
-        at: p.at,
-        end: p.end,
-        out: 0,
-        count: p.count,
-        state,
+    // Writes the responses, and reports the fault that stopped the program, where there is one, with the number of its case.
+    pub fn finish(&mut self, rt: &HostRuntime, outcome: Result<(), Fault>)
+        ensures { self.new.used ≡ 0 }
+    {
+        let written = self.flush(rt);
+        if let Err(fault) = written.and(outcome) {
+            let number = self.count.wrapping_add(1);
+            let _ = eprintln!(rt; "t414_batch: case {number}: {fault}");
+        }
     }
-}
-
-// Flushes the output buffer where the longest response does not fit.
-fn make_room(rt: &HostRuntime, p: Place, output: &[u8]) -> Place
-    requires { (p.out ≤ length output.now) × (most_response ≤ length output.now) }
-    ensures { (result.at ≡ p.at) × (result.end ≡ p.end) × (result.out + most_response ≤ length output.now) }
-{
-    if output.len() - p.out < case::MOST_RESPONSE {
-        return flush(rt, p, output);
-    }
-    p
-}
-
-// Reads where input is wanted, and flushes where the longest response does not fit.
-pub fn ready(rt: &HostRuntime, p: Place, input: &mut [u8], output: &[u8]) -> Place
-    requires { (p.at ≤ p.end) × (p.end ≤ length input.old) × (p.out ≤ length output.now) × (most_response ≤ length output.now) }
-    ensures { (result.at ≤ result.end) × (result.end ≤ length input.new) × (result.out + most_response ≤ length output.now) }
-{
-    make_room(rt, refill(rt, p, input), output)
-}
-
-// Returns the place after a case of size bytes, whose response ends at byte out of output.
-fn after(p: Place, size: usize, out: usize) -> Place
-    requires { p.at + size ≤ p.end }
-    ensures { (result.at ≤ result.end) × (result.end ≡ p.end) × (result.out ≡ out) }
-{
-    Place {
-        at: p.at + size,
-        end: p.end,
-        out: out,
-        count: p.count.wrapping_add(1),
-        state: case::LOOK,
-    }
-}
-
-// Writes the response to a case of size bytes; returns the place after it.
-pub fn answered(
-    p: Place,
-    size: usize,
-    r: Reply,
-    mem: &[u32],
-    journal: &[u32],
-    output: &mut [u8],
-) -> Place
-    requires { (p.at + size ≤ p.end) × (p.out + most_response ≤ length output.old) × (length mem.now ≤ most_words) × (length journal.now ≤ most_journal) }
-    ensures { (result.at ≤ result.end) × (result.end ≡ p.end) × (result.out ≤ length output.new) }
-{
-    let out = respond(r, mem, journal, output, p.out);
-    after(p, size, out)
-}
-
-// Returns the place with another state.
-pub fn held(p: Place, state: u32) -> Place
-    ensures { (result.at ≡ p.at) × (result.end ≡ p.end) × (result.out ≡ p.out) }
-{
-    Place {
-        at: p.at,
-        end: p.end,
-        out: p.out,
-        count: p.count,
-        state,
-    }
-}
-
-// Returns the turns left of the program's loop: 0 where there is a reason to stop.
-pub fn next(p: Place, turns: u64) -> u64
-    requires { 0 < turns }
-    ensures { result < turns }
-{
-    if p.state == case::LOOK { turns - 1 } else { 0 }
-}
-
-// Writes a line on standard error that names the case after the answered ones.
-fn complain(rt: &HostRuntime, count: u64, what: &str) {
-    let number = count.wrapping_add(1);
-    let _ = eprintln!(rt; "t414_batch: case {number}: {what}");
-}
-
-// Reports the reason to stop, unless the input ended.
-fn report(rt: &HostRuntime, p: Place) {
-    let state = p.state;
-    match state {
-        case::CUT_SHORT => complain(rt, p.count, "cut short by the end of the input"),
-        case::UNKNOWN_CALL => complain(rt, p.count, "the call is not one of 0 to 8"),
-        case::TOO_LONG => complain(
-            rt,
-            p.count,
-            "more than 16400 words, 65600 journal words or 65600 code bytes",
-        ),
-        case::TOO_SHORT => complain(rt, p.count, "fewer than 20 code bytes for call 8"),
-        case::UNWRITTEN => complain(rt, p.count, "the responses before it cannot be written"),
-        _ => {}
-    }
-}
-
-// Flushes the output buffer and reports the reason to stop.
-pub fn finish(rt: &HostRuntime, p: Place, output: &[u8]) -> Place
-    requires { p.out ≤ length output.now }
-    ensures { (result.at ≡ p.at) × (result.end ≡ p.end) × (result.out ≡ 0) }
-{
-    let done = flush(rt, p, output);
-    report(rt, done);
-    done
 }

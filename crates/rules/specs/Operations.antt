@@ -1,6 +1,6 @@
 -- The sixteen functions and the built operations (000 1.11; 01, The part of the T414 that we build; DECISIONS 1). The built list is the two
 -- tables of operations and nothing else.
-use Rattle.std.specs.Prelude.{ℕ, List, [], ◌∷◌, ◌++◌}
+use Rattle.std.specs.Prelude.{ℕ, List, [], ◌∷◌, ◌++◌, Option}
 use Rattle.rules.specs.Tests.{look}
 use Rattle.rules.specs.Stack as stack
 use Rattle.rules.specs.Registers.{oreg, core_of, system_of}
@@ -10,7 +10,6 @@ use Rattle.rules.specs.Data as data_rules
 use Rattle.rules.specs.Timers as timers
 use Rattle.rules.specs.Channels as channels
 use Rattle.rules.specs.declared.Core.{Core}
-use Rattle.rules.specs.declared.Attempt.{Attempt}
 use Rattle.rules.specs.declared.System.{System}
 use Rattle.rules.specs.declared.Both.{Both}
 
@@ -23,7 +22,7 @@ abbrev pub pure : (Core → Core) → Action
 pure f m w = on_core f w
 
 -- an operation on registers 0 to 6 alone that can Stop (DECISIONS 26)
-abbrev pub pure_or_stop : (Core → Attempt) → Action
+abbrev pub pure_or_stop : (Core → Option Core) → Action
 pure_or_stop f m w = on_attempt f w
 
 -- an operation that sets queue pointers or clocks (000 1.11, Booting and analysing)

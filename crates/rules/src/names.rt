@@ -181,16 +181,9 @@ pub const STATUS_INT_SAVE: u32 = 5;
 
 pub const EREG_INT_SAVE: u32 = 6;
 
-// ---- refusals by number (01, Answers by number), and the kinds of accesses
+// ---- refusals of a plan by number (01, Answers by number), and the kinds of accesses
 
-pub const SIZE: u32 = 1;
-
-pub const CODE_SIZE: u32 = 2;
-
-pub const JOURNAL_BAD: u32 = 4;
-
-pub const NOTHING_TO_UNDO: u32 = 5;
-
+// Kept, point 1: the log of a plan has its refusal in numbers (plan::Refusal), and so have the definitions of rules/specs/Work.antt (a).
 pub const HALTED: u32 = 6;
 
 pub const IDLE: u32 = 7;

@@ -1,76 +1,77 @@
 // Run (000 1.10).
 ghost use Rattle.std.specs.Prelude.{◌≡◌};
-ghost use Rattle.plan.specs.View.{view, Room, Grown};
+ghost use Rattle.plan.specs.View.{work_of, Room, Grown};
 ghost use Rattle.rules.specs.Scheduling as scheduling;
 
 use crate::flags::mask_status;
 use crate::queues::{activate_process, enqueue};
 use crate::save_area::save_registers;
-use plan::LOG;
-use rules::REGISTERS;
+use plan::Plan;
+use plan::level::Level;
 use rules::names::*;
-use words::level;
 
 // Interrupts the low process: saves its registers and starts the high process.
-fn interrupt(regs: &mut [u32; REGISTERS], log: &mut [u32; LOG], mem: &[u32], descriptor: u32)
-    requires { Room 7 log.old }
-    ensures { (view regs.new log.new ≡ scheduling.interrupt mem.now descriptor (view regs.old log.old)) × Grown 7 log.old log.new }
+#[tactic(auto, unfolding(rules::specs::Scheduling::interrupt, rules::specs::Work::put))]
+fn interrupt(plan: &mut Plan, mem: &[u32], descriptor: u32)
+    requires { Room 7 plan.old.log }
+    ensures { (work_of plan.new ≡ scheduling.interrupt mem.now descriptor (work_of plan.old)) × Grown 7 plan.old.log plan.new.log }
 {
-    let status = regs[STATUS_REG];
-    save_registers(regs, log, mem, status);
-    regs[WDESC_REG] = descriptor;
-    mask_status(regs);
-    activate_process(regs, log, mem);
+    let status = plan.regs[STATUS_REG];
+    save_registers(plan, mem, status);
+    plan.regs[WDESC_REG] = descriptor;
+    mask_status(&mut plan.regs);
+    activate_process(plan, mem);
 }
 
 // Starts the low process where no process runs, else enqueues the process.
-fn run_low(regs: &mut [u32; REGISTERS], log: &mut [u32; LOG], mem: &[u32], descriptor: u32)
-    requires { Room 1 log.old }
-    ensures { (view regs.new log.new ≡ scheduling.run_low mem.now descriptor (view regs.old log.old)) × Grown 1 log.old log.new }
+#[tactic(auto, using(plan::proofs::Decided::tests), unfolding(rules::specs::Scheduling::run_low, rules::specs::Work::put))]
+fn run_low(plan: &mut Plan, mem: &[u32], descriptor: u32)
+    requires { Room 1 plan.old.log }
+    ensures { (work_of plan.new ≡ scheduling.run_low mem.now descriptor (work_of plan.old)) × Grown 1 plan.old.log plan.new.log }
 {
-    if regs[WDESC_REG] & WPTR_MASK == NOT_PROCESS {
-        regs[WDESC_REG] = descriptor;
-        activate_process(regs, log, mem);
-        return;
+    if plan.regs[WDESC_REG] & WPTR_MASK == NOT_PROCESS {
+        plan.regs[WDESC_REG] = descriptor;
+        activate_process(plan, mem);
+    } else {
+        enqueue(
+            plan,
+            mem,
+            descriptor & WPTR_MASK,
+            FPTR_REG_LOW,
+            BPTR_REG_LOW,
+        );
     }
-    enqueue(
-        regs,
-        log,
-        mem,
-        descriptor & WPTR_MASK,
-        FPTR_REG_LOW,
-        BPTR_REG_LOW,
-    );
 }
 
 // Runs a process while the machine is at low priority: a high process interrupts.
-fn run_over_low(regs: &mut [u32; REGISTERS], log: &mut [u32; LOG], mem: &[u32], descriptor: u32)
-    requires { Room 7 log.old }
-    ensures { (view regs.new log.new ≡ scheduling.run_over_low mem.now descriptor (view regs.old log.old)) × Grown 7 log.old log.new }
+#[tactic(auto, using(plan::proofs::Decided::tests), unfolding(rules::specs::Scheduling::run_over_low))]
+fn run_over_low(plan: &mut Plan, mem: &[u32], descriptor: u32)
+    requires { Room 7 plan.old.log }
+    ensures { (work_of plan.new ≡ scheduling.run_over_low mem.now descriptor (work_of plan.old)) × Grown 7 plan.old.log plan.new.log }
 {
     if descriptor & PRIORITY_MASK == 0 {
-        interrupt(regs, log, mem, descriptor);
-        return;
+        interrupt(plan, mem, descriptor);
+    } else {
+        run_low(plan, mem, descriptor);
     }
-    run_low(regs, log, mem, descriptor);
 }
 
 // Run (000 1.10): enqueues the process while the machine is at high priority, else starts or enqueues the process by its own priority.
-pub fn run(regs: &mut [u32; REGISTERS], log: &mut [u32; LOG], mem: &[u32], descriptor: u32)
-    requires { Room 7 log.old }
-    ensures { (view regs.new log.new ≡ scheduling.run mem.now descriptor (view regs.old log.old)) × Grown 7 log.old log.new }
+#[tactic(auto, using(plan::proofs::Decided::tests), unfolding(rules::specs::Scheduling::run))]
+pub fn run(plan: &mut Plan, mem: &[u32], descriptor: u32)
+    requires { Room 7 plan.old.log }
+    ensures { (work_of plan.new ≡ scheduling.run mem.now descriptor (work_of plan.old)) × Grown 7 plan.old.log plan.new.log }
 {
-    if regs[WDESC_REG] & PRIORITY_MASK == 0 {
-        let l = level(descriptor);
+    if plan.regs[WDESC_REG] & PRIORITY_MASK == 0 {
+        let level = Level::of(descriptor);
         enqueue(
-            regs,
-            log,
+            plan,
             mem,
             descriptor & WPTR_MASK,
-            FPTR_REG + 2 * l,
-            BPTR_REG + 2 * l,
+            level.front(),
+            level.back(),
         );
-        return;
+    } else {
+        run_over_low(plan, mem, descriptor);
     }
-    run_over_low(regs, log, mem, descriptor);
 }

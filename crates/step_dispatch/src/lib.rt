@@ -2,155 +2,140 @@
 // core_table. Here are those that can Stop, use queue pointers or clocks, access memory or schedule.
 #![tactic(auto)]
 
-ghost use Rattle.std.specs.Prelude.{◌≡◌};
+ghost use Rattle.std.specs.Prelude.{◌≡◌, Option};
+ghost use Rattle.rules.specs.Registers as registers;
+ghost use Rattle.rules.specs.Work as work;
+ghost use Rattle.rules.specs.declared.Core.{Core};
+ghost use Rattle.rules.specs.declared.Both.{Both};
 ghost use Rattle.rules.specs.Operations as operations;
-ghost use Rattle.plan.specs.View.{view, count_of, Room, Ended};
+ghost use Rattle.plan.specs.View.{work_of, count_of, Room, Grown, Ended};
 ghost use Rattle.step_dispatch.specs.Others.{other_operation};
 
 use core_table::register_operation;
-use plan::LOG;
-use rules::REGISTERS;
+use plan::Plan;
 use rules::names::*;
+use rules::{Both, Core, System};
+
+// Does an operation on registers 0 to 6.
+pub fn on_core<F: FnOnce(Core) -> Core>(plan: &mut Plan, operation: F)
+    requires { F.IsAlwaysCallable operation }
+    ensures { (t : Core) × F.post operation (registers.core_of plan.old.regs) t × (work_of plan.new ≡ work.put_core t (work_of plan.old)) × (plan.new.log ≡ plan.old.log) }
+{
+    let t = operation(plan::core_of(&plan.regs));
+    plan::put_core(&mut plan.regs, t);
+}
+
+// Does an operation on registers 0 to 6 that can Stop.
+fn on_attempt<F: FnOnce(Core) -> Option<Core>>(plan: &mut Plan, operation: F)
+    requires { F.IsAlwaysCallable operation }
+    ensures { (t : Option Core) × F.post operation (registers.core_of plan.old.regs) t × (work_of plan.new ≡ work.attempted t (work_of plan.old)) × Grown 0 plan.old.log plan.new.log }
+{
+    let t = operation(plan::core_of(&plan.regs));
+    plan::attempted(plan, t);
+}
+
+// Does an operation on the registers of Core and of System.
+fn on_both<F: FnOnce(Core, System) -> Both>(plan: &mut Plan, operation: F)
+    requires { F.IsAlwaysCallable operation }
+    ensures { (t : Both) × F.post operation (registers.core_of plan.old.regs) (registers.system_of plan.old.regs) t × (work_of plan.new ≡ work.put_both t (work_of plan.old)) × (plan.new.log ≡ plan.old.log) }
+{
+    let t = operation(plan::core_of(&plan.regs), plan::system_of(&plan.regs));
+    plan::put_both(&mut plan.regs, t);
+}
 
 // Does the operation of a code that is not in core_table; refuses a code without a row.
-fn other_operation(regs: &mut [u32; REGISTERS], log: &mut [u32; LOG], mem: &[u32], code: u32)
-    requires { Room 12 log.old × (count_of log.old ≡ 0) }
-    ensures { (view regs.new log.new ≡ other_operation code mem.now (view regs.old log.old)) × Ended 12 log.old log.new }
+#[tactic(auto, unfolding(crate::specs::Others::other_operation, rules::specs::Operations::other_operations))]
+fn other_operation(plan: &mut Plan, mem: &[u32], code: u32)
+    requires { Room 12 plan.old.log × (count_of plan.old.log ≡ 0) }
+    ensures { (work_of plan.new ≡ other_operation code mem.now (work_of plan.old)) × Ended 12 plan.old.log plan.new.log }
 {
+    // Kept, point 7: the match is the table of the definitions, a line a code; a table of pointers adds wrappers where arguments differ.
     match code {
-        0x01 => data::bytes::lb(regs, log, mem),
-        0x03 => processes::ending::endp(regs, log, mem),
-        0x07 => channels::inputs::input(regs, log, mem),
-        0x0B => channels::outputs::output(regs, log, mem),
-        0x0D => processes::starting::startp(regs, log, mem),
-        0x0E => channels::outputs::outbyte(regs, log, mem),
-        0x0F => channels::outputs::outword(regs, log, mem),
-        0x12 => channels::hard::resetch(regs, log, mem),
-        0x15 => scheduling::stopping::stopp(regs, log, mem),
-        0x17 => {
-            let t = core_ops::clocks::stlb(plan::core_of(regs), plan::system_of(regs));
-            plan::put_both(regs, t)
-        },
-        0x18 => {
-            let t = core_ops::clocks::sthf(plan::core_of(regs), plan::system_of(regs));
-            plan::put_both(regs, t)
-        },
-        0x1C => {
-            let t = core_ops::clocks::stlf(plan::core_of(regs), plan::system_of(regs));
-            plan::put_both(regs, t)
-        },
-        0x20 => data::calls::ret(regs, log, mem),
-        0x21 => processes::loops::lend(regs, log, mem),
+        0x01 => data::bytes::lb(plan, mem),
+        0x03 => processes::ending::endp(plan, mem),
+        0x07 => channels::inputs::input(plan, mem),
+        0x0B => channels::outputs::output(plan, mem),
+        0x0D => processes::starting::startp(plan, mem),
+        0x0E => channels::outputs::outbyte(plan, mem),
+        0x0F => channels::outputs::outword(plan, mem),
+        0x12 => channels::hard::resetch(plan, mem),
+        0x15 => scheduling::stopping::stopp(plan, mem),
+        0x17 => on_both(plan, core_ops::clocks::stlb),
+        0x18 => on_both(plan, core_ops::clocks::sthf),
+        0x1C => on_both(plan, core_ops::clocks::stlf),
+        0x20 => data::calls::ret(plan, mem),
+        0x21 => processes::loops::lend(plan, mem),
         0x22 => {
-            let t = core_ops::clocks::ldtimer(plan::core_of(regs), plan::system_of(regs));
-            plan::put_core(regs, t)
+            let t = core_ops::clocks::ldtimer(
+                plan::core_of(&plan.regs),
+                plan::system_of(&plan.regs),
+            );
+            plan::put_core(&mut plan.regs, t)
         },
-        0x2B => timers::waits::tin(regs, log, mem),
-        0x2E => timers::guards::dist(regs, log, mem),
-        0x2F => alternatives::guards::disc(regs, log, mem),
-        0x30 => alternatives::waits::diss(regs, log, mem),
-        0x35 => {
-            let t = core_arith::long::lshr(plan::core_of(regs));
-            plan::attempted(regs, log, t)
-        },
-        0x36 => {
-            let t = core_arith::long::lshl(plan::core_of(regs));
-            plan::attempted(regs, log, t)
-        },
-        0x39 => processes::starting::runp(regs, log, mem),
-        0x3B => data::bytes::sb(regs, log, mem),
-        0x3D => data::queue_words::savel(regs, log, mem),
-        0x3E => data::queue_words::saveh(regs, log, mem),
-        0x40 => {
-            let t = core_ops::logic::shr(plan::core_of(regs));
-            plan::attempted(regs, log, t)
-        },
-        0x41 => {
-            let t = core_ops::logic::shl(plan::core_of(regs));
-            plan::attempted(regs, log, t)
-        },
-        0x43 => alternatives::waits::alt(regs, log, mem),
-        0x44 => alternatives::waits::altwt(regs, log, mem),
-        0x45 => data::calls::altend(regs, log, mem),
-        0x47 => timers::guards::enbt(regs, log, mem),
-        0x48 => alternatives::guards::enbc(regs, log, mem),
-        0x49 => alternatives::waits::enbs(regs, log, mem),
-        0x4A => data::blocks::block_move(regs, log, mem),
-        0x4E => timers::waits::talt(regs, log, mem),
-        0x50 => {
-            let t = core_ops::clocks::sthb(plan::core_of(regs), plan::system_of(regs));
-            plan::put_both(regs, t)
-        },
-        0x51 => timers::waits::taltwt(regs, log, mem),
-        0x54 => {
-            let t = core_ops::clocks::sttimer(plan::core_of(regs), plan::system_of(regs));
-            plan::put_both(regs, t)
-        },
-        0x55 => scheduling::stopping::stoperr(regs, log, mem),
-        _ => plan::refuse(log, UNLISTED),
+        0x2B => timers::waits::tin(plan, mem),
+        0x2E => timers::guards::dist(plan, mem),
+        0x2F => alternatives::guards::disc(plan, mem),
+        0x30 => alternatives::waits::diss(plan, mem),
+        0x35 => on_attempt(plan, core_arith::long::lshr),
+        0x36 => on_attempt(plan, core_arith::long::lshl),
+        0x39 => processes::starting::runp(plan, mem),
+        0x3B => data::bytes::sb(plan, mem),
+        0x3D => data::queue_words::savel(plan, mem),
+        0x3E => data::queue_words::saveh(plan, mem),
+        0x40 => on_attempt(plan, core_ops::logic::shr),
+        0x41 => on_attempt(plan, core_ops::logic::shl),
+        0x43 => alternatives::waits::alt(plan, mem),
+        0x44 => alternatives::waits::altwt(plan, mem),
+        0x45 => data::calls::altend(plan, mem),
+        0x47 => timers::guards::enbt(plan, mem),
+        0x48 => alternatives::guards::enbc(plan, mem),
+        0x49 => alternatives::waits::enbs(plan, mem),
+        0x4A => data::blocks::block_move(plan, mem),
+        0x4E => timers::waits::talt(plan, mem),
+        0x50 => on_both(plan, core_ops::clocks::sthb),
+        0x51 => timers::waits::taltwt(plan, mem),
+        0x54 => on_both(plan, core_ops::clocks::sttimer),
+        0x55 => scheduling::stopping::stoperr(plan, mem),
+        _ => plan::refuse(&mut plan.log, UNLISTED),
     }
 }
 
 // Does the operation of a code.
-fn operate(regs: &mut [u32; REGISTERS], log: &mut [u32; LOG], mem: &[u32], code: u32)
-    requires { Room 12 log.old × (count_of log.old ≡ 0) }
-    ensures { (view regs.new log.new ≡ operations.operate code mem.now (view regs.old log.old)) × Ended 12 log.old log.new }
+fn operate(plan: &mut Plan, mem: &[u32], code: u32)
+    requires { Room 12 plan.old.log × (count_of plan.old.log ≡ 0) }
+    ensures { (work_of plan.new ≡ operations.operate code mem.now (work_of plan.old)) × Ended 12 plan.old.log plan.new.log }
 {
-    let q = plan::core_of(regs);
-    let t = register_operation(code, q.iptr, q.wdesc, q.a, q.b, q.c, q.oreg, q.status);
-    let found = t.found;
-    if found {
-        let s = t.core;
-        plan::put_core(regs, s);
-        return;
+    match register_operation(code, plan::core_of(&plan.regs)) {
+        Some(t) => plan::put_core(&mut plan.regs, t),
+        None => other_operation(plan, mem, code),
     }
-    other_operation(regs, log, mem, code);
 }
 
 // Does the function of a code; step_engine does the prefixes.
-pub fn function(regs: &mut [u32; REGISTERS], log: &mut [u32; LOG], mem: &[u32], code: u32)
-    requires { Room 12 log.old × (count_of log.old ≡ 0) }
-    ensures { (view regs.new log.new ≡ operations.function code mem.now (view regs.old log.old)) × Ended 12 log.old log.new }
+#[tactic(auto, unfolding(rules::specs::Operations::function, rules::specs::Operations::functions))]
+pub fn function(plan: &mut Plan, mem: &[u32], code: u32)
+    requires { Room 12 plan.old.log × (count_of plan.old.log ≡ 0) }
+    ensures { (work_of plan.new ≡ operations.function code mem.now (work_of plan.old)) × Ended 12 plan.old.log plan.new.log }
 {
+    // Kept, point 7: as in other_operation, the match is the table of the definitions.
     match code {
-        0x0 => processes::slices::j(regs, log, mem),
-        0x1 => {
-            let t = core_ops::stack::ldlp(plan::core_of(regs));
-            plan::put_core(regs, t)
-        },
-        0x3 => data::locals::ldnl(regs, log, mem),
-        0x4 => {
-            let t = core_ops::stack::ldc(plan::core_of(regs));
-            plan::put_core(regs, t)
-        },
-        0x5 => {
-            let t = core_ops::stack::ldnlp(plan::core_of(regs));
-            plan::put_core(regs, t)
-        },
-        0x7 => data::locals::ldl(regs, log, mem),
-        0x8 => {
-            let t = core_arith::word::adc(plan::core_of(regs));
-            plan::put_core(regs, t)
-        },
-        0x9 => data::calls::call(regs, log, mem),
-        0xA => {
-            let t = core_ops::stack::cj(plan::core_of(regs));
-            plan::put_core(regs, t)
-        },
-        0xB => {
-            let t = core_ops::stack::ajw(plan::core_of(regs));
-            plan::put_core(regs, t)
-        },
-        0xC => {
-            let t = core_ops::stack::eqc(plan::core_of(regs));
-            plan::put_core(regs, t)
-        },
-        0xD => data::locals::stl(regs, log, mem),
-        0xE => data::locals::stnl(regs, log, mem),
+        0x0 => processes::slices::j(plan, mem),
+        0x1 => on_core(plan, core_ops::stack::ldlp),
+        0x3 => data::locals::ldnl(plan, mem),
+        0x4 => on_core(plan, core_ops::stack::ldc),
+        0x5 => on_core(plan, core_ops::stack::ldnlp),
+        0x7 => data::locals::ldl(plan, mem),
+        0x8 => on_core(plan, core_arith::word::adc),
+        0x9 => data::calls::call(plan, mem),
+        0xA => on_core(plan, core_ops::stack::cj),
+        0xB => on_core(plan, core_ops::stack::ajw),
+        0xC => on_core(plan, core_ops::stack::eqc),
+        0xD => data::locals::stl(plan, mem),
+        0xE => data::locals::stnl(plan, mem),
         0xF => {
-            let operand = regs[OREG];
-            operate(regs, log, mem, operand)
+            let operand = plan.regs[OREG];
+            operate(plan, mem, operand)
         }
-        _ => plan::refuse(log, UNLISTED),
+        _ => plan::refuse(&mut plan.log, UNLISTED),
     }
 }

@@ -6,6 +6,7 @@ use Prim.Native.Nat.{ℕ, zero, suc, ◌+◌, ◌-◌, ◌/◌, ◌^◌, ◌≤�
 use native.Mathlib.Omega.{arith}
 use lib.Bits.{bit_and}
 use lib.Dec.{eqb}
+use Rattle.std.specs.Prelude.{Option, Some, None}
 use lib.ListN.{length, get_or, drop}
 use borrow.Author.Tests.{eqb-true}
 use Rattle.rules.specs.Tests.{if_eq, look}
@@ -24,6 +25,7 @@ use Rattle.rules.specs.Step as steps
 use Rattle.rules.proofs.Tests.{yes_lt, no_lt, yes_le, no_le, yes_eq, no_eq, by_bool, cases_lt, cases_eq}
 use Rattle.rules.specs.declared.Core.{Core}
 use Rattle.step_pending.specs.NothingPending as pending
+use Rattle.step_fast.specs.declared.Stored.TheVariants.{Nothing, Frame}
 use Rattle.step_fast.specs.declared.FastStep.{FastStep}
 use Rattle.core_table.specs.Selected.{register_operation}
 use Rattle.core_table.proofs.Tables.{either, operate-is}
@@ -58,6 +60,30 @@ abbrev pub left : List ℕ → Core → FastStep → Work
 left rest s t =
     record { regs = listed t.core rest; stored = fast.stores_of (listed s rest) t; answer = 0; kind = 0; address = 0; trace = untraced }
 
+-- that a common step, where there is one, leaves this work
+unfoldable pub Leaves : List ℕ → Core → Option FastStep → Work → Type 0
+Leaves rest s None w = Unit {0}
+Leaves rest s (Some t) w = w ≡ left rest s t
+
+module _ (rest : List ℕ) (s : Core) where
+  declined : (w : Work) → Leaves rest s None w
+  unfolding Leaves
+  declined w = tt
+
+  leaves : (t : FastStep) (w : Work) → w ≡ left rest s t → Leaves rest s (Some t) w
+  unfolding Leaves
+  leaves t w e = e
+
+  left-is : (t : FastStep) (w : Work) → Leaves rest s (Some t) w → w ≡ left rest s t
+  unfolding Leaves
+  left-is t w e = e
+
+-- the fetch leaves A, B and C as they were
+before-fetch : (rest : List ℕ) (byte : ℕ) (s : Core) (o : Option FastStep) (w : Work) → Leaves rest (fast.fetched byte s) o w → Leaves rest s o w
+unfolding Leaves
+before-fetch rest byte s None w e = tt
+before-fetch rest byte s (Some t) w e = e
+
 -- ---- the end of a step where Status is as before it, with GotoSNP clear
 
 halt-same : (st : ℕ) (w : Work) → reg status_reg w ≡ st → steps.halt_on_error st w ≡ w
@@ -78,61 +104,61 @@ never e = absurd (let z : ◌≡◌ {A = ℕ} 0 1 = cc in omega arith)
 
 -- ---- a property of each row of a table is one of what is looked up in it
 
-abbrev All : (ℕ → (Core → FastStep) → Type 0) → List (ℕ × (Core → FastStep)) → Type 0
+abbrev All : (ℕ → (Core → Option FastStep) → Type 0) → List (ℕ × (Core → Option FastStep)) → Type 0
 All P [] = Unit {0}
 All P (e ∷ t) = P e.0 e.1 × All P t
 
-looked : (P : ℕ → (Core → FastStep) → Type 0) (t : List (ℕ × (Core → FastStep))) → All P t → (k : ℕ) (d : Core → FastStep) → P k d → P k (look t k d)
+looked : (P : ℕ → (Core → Option FastStep) → Type 0) (t : List (ℕ × (Core → Option FastStep))) → All P t → (k : ℕ) (d : Core → Option FastStep) → P k d → P k (look t k d)
 looked P [] all k d o = o
 looked P (e ∷ t) all k d o =
     by_bool (eqb k e.0) (λ h. rw (h, eqb-true k e.0 h) all.0) (λ h. rw h (looked P t all.1 k d o))
 
 module _ (m rest : List ℕ) where
   -- an executed function, to its end
-  abbrev pub Good : ℕ → Core → FastStep → Type 0
-  Good code s t =
-      t.done ≡ true → bit_and s.status goto_snp_bit ≡ 0
-      → steps.halt_on_error s.status (steps.execute m code (begin (listed s rest))) ≡ left rest s t
+  abbrev pub Good : ℕ → Core → Option FastStep → Type 0
+  Good code s o =
+      bit_and s.status goto_snp_bit ≡ 0
+      → Leaves rest s o (steps.halt_on_error s.status (steps.execute m code (begin (listed s rest))))
 
   -- a function on registers alone
-  registers-left : (f : Core → Core) (s : Core) → (fast.registers_only f s).done ≡ true → bit_and s.status goto_snp_bit ≡ 0
-      → steps.halt_on_error s.status (scheduling.act_on_snp m (put oreg 0 (put_core (f (core_of (listed s rest))) (begin (listed s rest)))))
-      ≡ left rest s (fast.registers_only f s)
+  registers-left : (f : Core → Core) (s : Core) → bit_and s.status goto_snp_bit ≡ 0
+      → Leaves rest s (fast.registers_only f s)
+      (steps.halt_on_error s.status (scheduling.act_on_snp m (put oreg 0 (put_core (f (core_of (listed s rest))) (begin (listed s rest))))))
   unfolding fast.if_same_status put put_core core_of with_core
-  registers-left f s d clear =
+  registers-left f s clear =
       cases_eq (f s).status s.status
-      (λ e. rw (yes_eq e) (finish m s.status _ e clear))
-      (λ n. never (rw (no_eq n) at d))
+      (λ e. rw (yes_eq e) (leaves _ _ (fast.finished (f s) Nothing) _ (finish m s.status _ e clear)))
+      (λ n. rw (no_eq n) (declined _ _ _))
 
   -- load local, load non-local
   ldl_good : (s : Core) → Good 0x7 s (fast.ldl m s)
   unfolding fast.ldl steps.execute tables.function tables.functions loads.ldl loads.pushed put r_index_word word_at access stores
-  ldl_good s d clear =
+  ldl_good s clear =
       cases_lt (index (at_word (wptr_of s.wdesc) s.oreg)) (length m)
-      (λ h. rw (yes_lt h, yes_lt h) (finish m s.status _ refl clear))
-      (λ h. never (rw (no_lt h) at d))
+      (λ h. rw (yes_lt h, yes_lt h) (leaves _ _ _ _ (finish m s.status _ refl clear)))
+      (λ h. rw (no_lt h) (declined _ _ _))
 
   ldnl_good : (s : Core) → Good 0x3 s (fast.ldnl m s)
   unfolding fast.ldnl steps.execute tables.function tables.functions loads.ldnl put r_index_word word_at access stores
-  ldnl_good s d clear =
+  ldnl_good s clear =
       cases_lt (index (at_word s.a s.oreg)) (length m)
-      (λ h. rw (yes_lt h, yes_lt h) (finish m s.status _ refl clear))
-      (λ h. never (rw (no_lt h) at d))
+      (λ h. rw (yes_lt h, yes_lt h) (leaves _ _ _ _ (finish m s.status _ refl clear)))
+      (λ h. rw (no_lt h) (declined _ _ _))
 
   -- store local, store non-local
   stl_good : (s : Core) → Good 0xD s (fast.stl m s)
   unfolding fast.stl steps.execute tables.function tables.functions loads.stl loads.popped put w_index_word store_word access append if_eq
-  stl_good s d clear =
+  stl_good s clear =
       cases_lt (index (at_word (wptr_of s.wdesc) s.oreg)) (length m)
-      (λ h. rw (yes_lt h, yes_lt h) (finish m s.status _ refl clear))
-      (λ h. never (rw (no_lt h) at d))
+      (λ h. rw (yes_lt h, yes_lt h) (leaves _ _ _ _ (finish m s.status _ refl clear)))
+      (λ h. rw (no_lt h) (declined _ _ _))
 
   stnl_good : (s : Core) → Good 0xE s (fast.stnl m s)
   unfolding fast.stnl steps.execute tables.function tables.functions loads.stnl put w_index_word store_word access append if_eq
-  stnl_good s d clear =
+  stnl_good s clear =
       cases_lt (index (at_word s.a s.oreg)) (length m)
-      (λ h. rw (yes_lt h, yes_lt h) (finish m s.status _ refl clear))
-      (λ h. never (rw (no_lt h) at d))
+      (λ h. rw (yes_lt h, yes_lt h) (leaves _ _ _ _ (finish m s.status _ refl clear)))
+      (λ h. rw (no_lt h) (declined _ _ _))
 
   -- call: the words of a frame are one after the other
   module _ (p : ℕ) (h : 3 ≤ index (at_word p (minus 1))) where
@@ -185,75 +211,76 @@ module _ (m rest : List ℕ) where
   called : (s : Core) (i : ℕ) → i < range - 3 → bit_and s.status goto_snp_bit ≡ 0
       → loads.call_frame m (begin (listed s rest))
       ≡ record { regs = listed s rest; stored = fast.frame i s.iptr s.a s.b s.c; answer = 0; kind = 0; address = 0; trace = untraced }
-      → steps.halt_on_error s.status (steps.execute m 0x9 (begin (listed s rest))) ≡ left rest s (fast.finish_calling i s.iptr (fast.entered s))
+      → steps.halt_on_error s.status (steps.execute m 0x9 (begin (listed s rest))) ≡ left rest s (fast.finished (fast.entered s) (Frame i s.iptr))
   unfolding steps.execute tables.function tables.functions fast.entered loads.call loads.entered loads.jump_by loads.adjusted put
   called s i f clear e = rw (e, yes_lt f) (finish m s.status _ refl clear)
 
   call_good : (s : Core) → Good 0x9 s (fast.call m s)
   unfolding fast.call
-  call_good s d clear =
+  call_good s clear =
       let p = wptr_of s.wdesc in
       cases_lt (fast.top s) 3
-      (λ l. never (rw (no_le l) at d))
+      (λ l. rw (no_le l) (declined _ _ _))
       (λ l. cases_lt (fast.top s) (length m)
-      (λ h. rw (yes_le l, yes_lt h) (called s (fast.top s - 3) (frame_fits p l) clear (frame_added s (fast.top s - 3) (place_1 p l) (place_2 p l) (place_3 p l) (place_4 p l) (omega arith))))
-      (λ h. never (rw (yes_le l, no_lt h) at d)))
+      (λ h. rw (yes_le l, yes_lt h) (leaves _ _ _ _ (called s (fast.top s - 3) (frame_fits p l) clear (frame_added s (fast.top s - 3) (place_1 p l) (place_2 p l) (place_3 p l) (place_4 p l) (omega arith)))))
+      (λ h. rw (yes_le l, no_lt h) (declined _ _ _)))
 
   -- jump
   j_good : (s₀ s : Core) → Good 0x0 s (fast.j (listed s₀ rest) s)
   unfolding fast.j pending.slice_ends steps.execute tables.function tables.functions scheduling.j scheduling.time_slice scheduling.slice_if_running scheduling.slice_if_long put
-  j_good s₀ s d clear =
+  j_good s₀ s clear =
       cases_eq (priority_of s.wdesc) 0
-      (λ h. rw (yes_eq h, yes_eq h) (finish m s.status _ refl clear))
+      (λ h. rw (yes_eq h, yes_eq h) (leaves _ _ _ _ (finish m s.status _ refl clear)))
       (λ p. cases_eq (bit_and (get_or rest 10 0) stack.clocks_run) 0
-      (λ h. rw (no_eq p, no_eq p, yes_eq h, yes_eq h) (finish m s.status _ refl clear))
+      (λ h. rw (no_eq p, no_eq p, yes_eq h, yes_eq h) (leaves _ _ _ _ (finish m s.status _ refl clear)))
       (λ k. cases_lt (get_or rest 9 0) scheduling.slice_length
-      (λ h. rw (no_eq p, no_eq p, no_eq k, no_eq k, no_le h, no_le h) (finish m s.status _ refl clear))
-      (λ h. never (rw (no_eq p, no_eq k, yes_le h) at d))))
+      (λ h. rw (no_eq p, no_eq p, no_eq k, no_eq k, no_le h, no_le h) (leaves _ _ _ _ (finish m s.status _ refl clear)))
+      (λ h. rw (no_eq p, no_eq k, yes_le h) (declined _ _ _))))
 
   -- ---- operations
 
   -- an operation that accesses memory
-  abbrev Accessed : ℕ → (Core → FastStep) → Type 0
-  Accessed k f = (s : Core) → (f s).done ≡ true → bit_and s.status goto_snp_bit ≡ 0
-      → steps.halt_on_error s.status (scheduling.act_on_snp m (put oreg 0 (look tables.other_operations k tables.unlisted_action m (begin (listed s rest))))) ≡ left rest s (f s)
+  abbrev Accessed : ℕ → (Core → Option FastStep) → Type 0
+  Accessed k f = (s : Core) → bit_and s.status goto_snp_bit ≡ 0
+      → Leaves rest s (f s) (steps.halt_on_error s.status (scheduling.act_on_snp m (put oreg 0 (look tables.other_operations k tables.unlisted_action m (begin (listed s rest))))))
 
   lb_good : Accessed 0x01 (fast.lb m)
   unfolding fast.lb tables.other_operations loads.lb put r_index_byte byte_at word_at access stores
-  lb_good s d clear =
+  lb_good s clear =
       cases_lt (index s.a) (length m)
-      (λ h. rw (yes_lt h, yes_lt h) (finish m s.status _ refl clear))
-      (λ h. never (rw (no_lt h) at d))
+      (λ h. rw (yes_lt h, yes_lt h) (leaves _ _ _ _ (finish m s.status _ refl clear)))
+      (λ h. rw (no_lt h) (declined _ _ _))
 
   ret_good : Accessed 0x20 (fast.ret m)
   unfolding fast.ret tables.other_operations loads.ret loads.adjusted put r_index_word word_at access stores
-  ret_good s d clear =
+  ret_good s clear =
       cases_lt (index (at_word (wptr_of s.wdesc) 0)) (length m)
-      (λ h. rw (yes_lt h, yes_lt h) (finish m s.status _ refl clear))
-      (λ h. never (rw (no_lt h) at d))
+      (λ h. rw (yes_lt h, yes_lt h) (leaves _ _ _ _ (finish m s.status _ refl clear)))
+      (λ h. rw (no_lt h) (declined _ _ _))
 
   sb_good : Accessed 0x3B (fast.sb m)
   unfolding fast.sb tables.other_operations loads.sb put store_byte word_at access append stores if_eq
-  sb_good s d clear =
+  sb_good s clear =
       cases_lt (index s.a) (length m)
-      (λ h. rw (yes_lt h, yes_lt h) (finish m s.status _ refl clear))
-      (λ h. never (rw (no_lt h) at d))
+      (λ h. rw (yes_lt h, yes_lt h) (leaves _ _ _ _ (finish m s.status _ refl clear)))
+      (λ h. rw (no_lt h) (declined _ _ _))
 
   -- any operation
-  abbrev Operated : ℕ → (Core → FastStep) → Type 0
-  Operated k f = (s : Core) → (f s).done ≡ true → bit_and s.status goto_snp_bit ≡ 0
-      → steps.halt_on_error s.status (scheduling.act_on_snp m (put oreg 0 (either (register_operation k s) (begin (listed s rest)) (look tables.other_operations k tables.unlisted_action m (begin (listed s rest)))))) ≡ left rest s (f s)
+  abbrev Operated : ℕ → (Core → Option FastStep) → Type 0
+  Operated k f = (s : Core) → bit_and s.status goto_snp_bit ≡ 0
+      → Leaves rest s (f s) (steps.halt_on_error s.status (scheduling.act_on_snp m (put oreg 0 (either (register_operation k s) (begin (listed s rest)) (look tables.other_operations k tables.unlisted_action m (begin (listed s rest)))))))
 
-  accessed_good : (k : ℕ) (f : Core → FastStep) → ((s : Core) → (register_operation k s).found ≡ false) → Accessed k f → Operated k f
+  accessed_good : (k : ℕ) (f : Core → Option FastStep) → ((s : Core) → register_operation k s ≡ None) → Accessed k f → Operated k f
   unfolding either
-  accessed_good k f none e s d clear = rw (none s) (e s d clear)
+  accessed_good k f none e s clear = rw (none s) (e s clear)
 
   table_good : (k : ℕ) → Operated k (fast.table_operation k)
   unfolding fast.table_operation either
-  table_good k s d clear =
-      by_bool (register_operation k s).found
-      (λ h. rw h (registers-left (λ _. (register_operation k s).core) s (rw h at d) clear))
-      (λ h. never (rw h at d))
+  table_good k s clear = go (register_operation k s)
+    where
+      go : (o : Option Core) → Leaves rest s (fast.tabled s.status o) (steps.halt_on_error s.status (scheduling.act_on_snp m (put oreg 0 (either o (begin (listed s rest)) (look tables.other_operations k tables.unlisted_action m (begin (listed s rest)))))))
+      go None = declined _ _ _
+      go (Some t) = registers-left (λ _. t) s clear
 
   operate_good : (k : ℕ) → Operated k (fast.operate m k)
   unfolding fast.operate fast.memory_operations register_operation tables.register_operations
@@ -264,36 +291,38 @@ module _ (m rest : List ℕ) where
 
   opr_good : (s : Core) → Good 0xF s (fast.opr m s)
   unfolding steps.execute tables.function tables.functions core_of
-  opr_good s d clear = rw (operate-is s.oreg m (begin (listed s rest))) (operate_good s.oreg s d clear)
+  opr_good s clear = rw (operate-is s.oreg m (begin (listed s rest))) (operate_good s.oreg s clear)
 
   -- ---- decoding
 
-  abbrev Decoded : ℕ → (Core → FastStep) → Type 0
-  Decoded k f = (s : Core) → (f s).done ≡ true → bit_and s.status goto_snp_bit ≡ 0
-      → steps.halt_on_error s.status (steps.decode m k (begin (listed s rest))) ≡ left rest s (f s)
+  abbrev Decoded : ℕ → (Core → Option FastStep) → Type 0
+  Decoded k f = (s : Core) → bit_and s.status goto_snp_bit ≡ 0
+      → Leaves rest s (f s) (steps.halt_on_error s.status (steps.decode m k (begin (listed s rest))))
 
-  prefix-left : (f : Core → Core) (s : Core) → ((f s).status ≡ s.status) → steps.halt_on_error s.status (put_core (f (core_of (listed s rest))) (begin (listed s rest))) ≡ left rest s (fast.prefix (f s))
+  prefix-left : (f : Core → Core) (s : Core) → ((f s).status ≡ s.status) → Leaves rest s (fast.prefix (f s)) (steps.halt_on_error s.status (put_core (f (core_of (listed s rest))) (begin (listed s rest))))
   unfolding put_core core_of with_core
-  prefix-left f s e = halt-same s.status _ e
+  prefix-left f s e = leaves _ _ (record { core = f s; stored = Nothing }) _ (halt-same s.status _ e)
 
   decode_rows : (s₀ : Core) → All Decoded (fast.functions m (listed s₀ rest))
   unfolding fast.functions steps.decode if_eq steps.execute tables.function tables.functions
   decode_rows s₀ =
-      (j_good s₀, (registers-left stack.ldlp, ((λ s d clear. prefix-left stack.pfix s refl), (ldnl_good, (registers-left stack.ldc, (registers-left stack.ldnlp, ((λ s d clear. prefix-left stack.nfix s refl), (ldl_good, (registers-left stack.adc, (call_good, (registers-left stack.cj, (registers-left stack.ajw, (registers-left stack.eqc, (stl_good, (stnl_good, (opr_good, tt))))))))))))))))
+      (j_good s₀, (registers-left stack.ldlp, ((λ s clear. prefix-left stack.pfix s refl), (ldnl_good, (registers-left stack.ldc, (registers-left stack.ldnlp, ((λ s clear. prefix-left stack.nfix s refl), (ldl_good, (registers-left stack.adc, (call_good, (registers-left stack.cj, (registers-left stack.ajw, (registers-left stack.eqc, (stl_good, (stnl_good, (opr_good, tt))))))))))))))))
 
   decode_good : (s₀ : Core) (k : ℕ) → Decoded k (fast.decode m (listed s₀ rest) k)
   unfolding fast.decode
-  decode_good s₀ k = looked Decoded (fast.functions m (listed s₀ rest)) (decode_rows s₀) k fast.other (λ s d clear. never d)
+  decode_good s₀ k = looked Decoded (fast.functions m (listed s₀ rest)) (decode_rows s₀) k fast.other (λ s clear. (declined _ _ _))
 
   -- ---- the fetch
 
-  fetch_good : (s : Core) → (fast.fetch m (listed s rest) s).done ≡ true → bit_and s.status goto_snp_bit ≡ 0
-      → steps.halt_on_error s.status (steps.instruction m (begin (listed s rest))) ≡ left rest s (fast.fetch m (listed s rest) s)
+  fetch_good : (s : Core) → bit_and s.status goto_snp_bit ≡ 0
+      → Leaves rest s (fast.fetch m (listed s rest) s) (steps.halt_on_error s.status (steps.instruction m (begin (listed s rest))))
   unfolding fast.fetch fast.decoded steps.instruction steps.fetched put byte_at word_at access stores
-  fetch_good s d clear =
+  fetch_good s clear =
       cases_lt (index s.iptr) (length m)
-      (λ h. rw (yes_lt h, yes_lt h) (decode_good s (byte_of (selector s.iptr) (get_or m (index s.iptr) 0) / 2 ^ 4) (fast.fetched (byte_of (selector s.iptr) (get_or m (index s.iptr) 0)) s) (rw (yes_lt h) at d) clear))
-      (λ h. never (rw (no_lt h) at d))
+      (λ h.
+      let byte = byte_of (selector s.iptr) (get_or m (index s.iptr) 0) in
+      rw (yes_lt h, yes_lt h) (before-fetch rest byte s _ _ (decode_good s (byte / 2 ^ 4) (fast.fetched byte s) clear)))
+      (λ h. rw (no_lt h) (declined _ _ _))
 
 -- ---- what may come before an instruction
 
@@ -368,17 +397,19 @@ module _ (m r : List ℕ) where
   nothing_pending-step q = rw (yes_eq q.awake, q.first, yes_eq q.busy)
 
 -- the law: a common step is the step of rules
-listed-step : (m : List ℕ) (s : Core) (rest : List ℕ) → (fast.fast m (listed s rest)).done ≡ true
-    → steps.step m (begin (listed s rest)) ≡ fast.fast_work (listed s rest) (fast.fast m (listed s rest))
-unfolding fast.fast core_of with_core
-listed-step m s rest d =
+listed-step : (m : List ℕ) (s : Core) (rest : List ℕ)
+    → Leaves rest s (fast.fast m (listed s rest)) (steps.step m (begin (listed s rest)))
+unfolding fast.fast core_of
+listed-step m s rest =
     by_bool (pending.nothing_pending (listed s rest))
     (λ h.
     let q = nothing_pending-told m (listed s rest) h in
-    rw (h, nothing_pending-step m (listed s rest) q) (fetch_good m rest s (rw h at d) q.clear))
-    (λ h. never (rw h at d))
+    rw (h, nothing_pending-step m (listed s rest) q) (fetch_good m rest s q.clear))
+    (λ h. rw h (declined _ _ _))
 
-pub fast-step : (m r : List ℕ) → 7 ≤ length r → (fast.fast m r).done ≡ true
-    → steps.step m (begin r) ≡ fast.fast_work r (fast.fast m r)
-fast-step m r l d =
-    rw (seven r l) (listed-step m (core_of r) (drop 7 r) (rw (seven r l) at d))
+pub fast-step : (m r : List ℕ) (t : FastStep) → 7 ≤ length r → fast.fast m r ≡ Some t
+    → steps.step m (begin r) ≡ fast.fast_work r t
+unfolding with_core
+fast-step m r t l e =
+    let f : fast.fast m (listed (core_of r) (drop 7 r)) ≡ Some t = rw (seven r l) at e in
+    rw (seven r l) (left-is _ _ t _ (rw f at (listed-step m (core_of r) (drop 7 r))))

@@ -2,7 +2,7 @@
 ghost use Rattle.std.specs.Prelude.{◌≡◌};
 ghost use Rattle.step_fast.specs.Fast as fast;
 
-use crate::FastStep;
+use crate::{FastStep, Stored};
 use core_arith::word;
 use core_ops::stack;
 use rules::names::*;
@@ -14,169 +14,145 @@ const FRAME_WORDS: u32 = 4;
 
 const MINUS_FRAME: u32 = 0xFFFF_FFFC;
 
-// Declines the step.
-pub fn decline() -> FastStep
-    ensures { result ≡ fast.decline }
+// Finishes a step: Oreg becomes 0.
+fn finish(s: Core, stored: Stored) -> FastStep
+    ensures { result ≡ fast.finished s stored }
 {
-    let core = Core {
-        iptr: 0,
-        wdesc: 0,
-        a: 0,
-        b: 0,
-        c: 0,
-        oreg: 0,
-        status: 0,
-    };
     FastStep {
-        done: false,
-        core,
-        stores: 0,
-        index: 0,
-        value: 0,
+        core: Core { oreg: 0, ..s },
+        stored,
     }
 }
 
 // Finishes a prefix: Oreg keeps its value.
-fn prefix(s: Core) -> FastStep
+fn prefix(s: Core) -> Option<FastStep>
     ensures { result ≡ fast.prefix s }
 {
-    FastStep {
-        done: true,
+    Some(FastStep {
         core: s,
-        stores: 0,
-        index: 0,
-        value: 0,
-    }
-}
-
-// Finishes a step without a store: Oreg becomes 0.
-fn finish(s: Core) -> FastStep
-    ensures { result ≡ fast.finish s }
-{
-    let mut t = s;
-    t.oreg = 0;
-    prefix(t)
-}
-
-// Finishes a step that stores v in word i: Oreg becomes 0.
-fn finish_storing(i: u32, v: u32, s: Core) -> FastStep
-    ensures { result ≡ fast.finish_storing i v s }
-{
-    let mut t = s;
-    t.oreg = 0;
-    FastStep {
-        done: true,
-        core: t,
-        stores: 1,
-        index: i,
-        value: v,
-    }
-}
-
-// Finishes a call: the frame starts at word i, and v is the first of its words.
-fn finish_calling(i: u32, v: u32, s: Core) -> FastStep
-    ensures { result ≡ fast.finish_calling i v s }
-{
-    let mut t = s;
-    t.oreg = 0;
-    FastStep {
-        done: true,
-        core: t,
-        stores: 4,
-        index: i,
-        value: v,
-    }
+        stored: Stored::Nothing,
+    })
 }
 
 // Finishes a step on registers alone if Status did not change, else declines: t is the registers after it, status the one before.
-fn finish_if_same_status(status: u32, t: Core) -> FastStep
-    ensures { result ≡ fast.if_same_status status (fast.finish t) }
+#[tactic(auto, unfolding(crate::specs::Fast::if_same_status, rules::specs::Tests::if_eq))]
+fn finish_if_same_status(status: u32, t: Core) -> Option<FastStep>
+    ensures { result ≡ fast.if_same_status status t }
 {
     if t.status == status {
-        return finish(t);
+        return Some(finish(t, Stored::Nothing));
     }
-    decline()
+    None
 }
 
-fn ldl(mem: &[u32], s: Core) -> FastStep
+#[tactic(auto, unfolding(crate::specs::Fast::ldl, rules::specs::Tests::if_lt))]
+fn ldl(mem: &[u32], s: Core) -> Option<FastStep>
     ensures { result ≡ fast.ldl mem.now s }
 {
     let i = words::index_of(words::at_word(words::wptr_of(s.wdesc), s.oreg));
     let at = i as usize;
     if at < mem.len() {
-        return finish(stack::push(mem[at], s));
+        return Some(finish(stack::push(mem[at], s), Stored::Nothing));
     }
-    decline()
+    None
 }
 
-fn ldnl(mem: &[u32], s: Core) -> FastStep
+#[tactic(auto, unfolding(crate::specs::Fast::ldnl, rules::specs::Tests::if_lt))]
+fn ldnl(mem: &[u32], s: Core) -> Option<FastStep>
     ensures { result ≡ fast.ldnl mem.now s }
 {
     let i = words::index_of(words::at_word(s.a, s.oreg));
     let at = i as usize;
     if at < mem.len() {
-        return finish(stack::with_a(mem[at], s));
+        return Some(finish(stack::with_a(mem[at], s), Stored::Nothing));
     }
-    decline()
+    None
 }
 
-fn stl(mem: &[u32], s: Core) -> FastStep
+#[tactic(auto, unfolding(crate::specs::Fast::stl, rules::specs::Tests::if_lt))]
+fn stl(mem: &[u32], s: Core) -> Option<FastStep>
     ensures { result ≡ fast.stl mem.now s }
 {
     let i = words::index_of(words::at_word(words::wptr_of(s.wdesc), s.oreg));
     if (i as usize) < mem.len() {
-        return finish_storing(i, s.a, stack::pop(s));
+        return Some(finish(
+            stack::pop(s),
+            Stored::Word {
+                index: i,
+                value: s.a,
+            },
+        ));
     }
-    decline()
+    None
 }
 
-fn stnl(mem: &[u32], s: Core) -> FastStep
+#[tactic(auto, unfolding(crate::specs::Fast::stnl, rules::specs::Tests::if_lt))]
+fn stnl(mem: &[u32], s: Core) -> Option<FastStep>
     ensures { result ≡ fast.stnl mem.now s }
 {
     let i = words::index_of(words::at_word(s.a, s.oreg));
     if (i as usize) < mem.len() {
-        return finish_storing(i, s.b, stack::with_a(s.c, s));
+        return Some(finish(
+            stack::with_a(s.c, s),
+            Stored::Word {
+                index: i,
+                value: s.b,
+            },
+        ));
     }
-    decline()
+    None
 }
 
-fn j(regs: [u32; REGISTERS], s: Core) -> FastStep
+#[tactic(auto, unfolding(crate::specs::Fast::j))]
+fn j(regs: [u32; REGISTERS], s: Core) -> Option<FastStep>
     ensures { result ≡ fast.j regs s }
 {
     if pending::slice_ends(regs, s) {
-        return decline();
+        return None;
     }
-    let mut t = s;
-    t.iptr = words::at_byte(s.iptr, s.oreg);
-    finish(t)
+    let t = Core {
+        iptr: words::at_byte(s.iptr, s.oreg),
+        ..s
+    };
+    Some(finish(t, Stored::Nothing))
 }
 
 // Enters a procedure: copies the return address to A, moves Wptr below the frame and jumps by Oreg.
+#[tactic(auto, unfolding(crate::specs::Fast::entered))]
 fn entered(s: Core) -> Core
     ensures { result ≡ fast.entered s }
 {
-    let mut t = stack::move_workspace(words::at_word(words::wptr_of(s.wdesc), MINUS_FRAME), s);
-    t.a = s.iptr;
-    t.iptr = words::at_byte(s.iptr, s.oreg);
-    t
+    Core {
+        a: s.iptr,
+        iptr: words::at_byte(s.iptr, s.oreg),
+        ..stack::move_workspace(words::at_word(words::wptr_of(s.wdesc), MINUS_FRAME), s)
+    }
 }
 
 // Calls: stores the frame, whose highest word, top, is the one below Wptr, and enters the procedure. Declines where the four words are not in
 // memory, one after the other.
-fn call(mem: &[u32], s: Core) -> FastStep
+#[tactic(auto, unfolding(crate::specs::Fast::call, rules::specs::Tests::if_lt, rules::specs::Tests::if_le))]
+fn call(mem: &[u32], s: Core) -> Option<FastStep>
     ensures { result ≡ fast.call mem.now s }
 {
     let top = words::index_of(words::at_word(words::wptr_of(s.wdesc), MINUS_ONE));
     if 3 <= top {
         if (top as usize) < mem.len() {
-            return finish_calling(top - 3, s.iptr, entered(s));
+            return Some(finish(
+                entered(s),
+                Stored::Frame {
+                    index: top - 3,
+                    value: s.iptr,
+                },
+            ));
         }
-        return decline();
+        return None;
     }
-    decline()
+    None
 }
 
-fn ret(mem: &[u32], s: Core) -> FastStep
+#[tactic(auto, unfolding(crate::specs::Fast::ret, rules::specs::Tests::if_lt))]
+fn ret(mem: &[u32], s: Core) -> Option<FastStep>
     ensures { result ≡ fast.ret mem.now s }
 {
     let wptr = words::wptr_of(s.wdesc);
@@ -184,47 +160,52 @@ fn ret(mem: &[u32], s: Core) -> FastStep
     if at < mem.len() {
         let mut t = stack::move_workspace(words::at_word(wptr, FRAME_WORDS), s);
         t.iptr = mem[at];
-        return finish(t);
+        return Some(finish(t, Stored::Nothing));
     }
-    decline()
+    None
 }
 
-fn lb(mem: &[u32], s: Core) -> FastStep
+#[tactic(auto, unfolding(crate::specs::Fast::lb, rules::specs::Tests::if_lt))]
+fn lb(mem: &[u32], s: Core) -> Option<FastStep>
     ensures { result ≡ fast.lb mem.now s }
 {
     let at = words::index_of(s.a) as usize;
     if at < mem.len() {
-        return finish(stack::with_a(words::byte_of(words::selector(s.a), mem[at]), s));
+        return Some(finish(
+            stack::with_a(words::byte_of(words::selector(s.a), mem[at]), s),
+            Stored::Nothing,
+        ));
     }
-    decline()
+    None
 }
 
-fn sb(mem: &[u32], s: Core) -> FastStep
+#[tactic(auto, unfolding(crate::specs::Fast::sb, rules::specs::Tests::if_lt))]
+fn sb(mem: &[u32], s: Core) -> Option<FastStep>
     ensures { result ≡ fast.sb mem.now s }
 {
     let i = words::index_of(s.a);
     let at = i as usize;
     if at < mem.len() {
-        let v = words::with_byte(words::selector(s.a), s.b % 256, mem[at]);
-        return finish_storing(i, v, stack::with_a(s.c, s));
+        let value = words::with_byte(words::selector(s.a), s.b % 256, mem[at]);
+        return Some(finish(stack::with_a(s.c, s), Stored::Word { index: i, value }));
     }
-    decline()
+    None
 }
 
 // Does an operation on registers alone; declines every other.
-fn table_operation(code: u32, s: Core) -> FastStep
+#[tactic(auto, unfolding(crate::specs::Fast::table_operation))]
+fn table_operation(code: u32, s: Core) -> Option<FastStep>
     ensures { result ≡ fast.table_operation code s }
 {
-    let t = core_table::register_operation(code, s.iptr, s.wdesc, s.a, s.b, s.c, s.oreg, s.status);
-    let found = t.found;
-    if found {
-        return finish_if_same_status(s.status, t.core);
+    match core_table::register_operation(code, s) {
+        Some(t) => finish_if_same_status(s.status, t),
+        None => None,
     }
-    decline()
 }
 
 // Does lb, ret or sb, or an operation of the table. The table comes last, so that nothing has to be kept over its call.
-fn operate(mem: &[u32], code: u32, s: Core) -> FastStep
+#[tactic(auto, unfolding(crate::specs::Fast::operate, crate::specs::Fast::memory_operations))]
+fn operate(mem: &[u32], code: u32, s: Core) -> Option<FastStep>
     ensures { result ≡ fast.operate mem.now code s }
 {
     match code {
@@ -236,7 +217,9 @@ fn operate(mem: &[u32], code: u32, s: Core) -> FastStep
 }
 
 // Does the function of a code; regs are all registers before the step.
-pub fn decode(mem: &[u32], regs: [u32; REGISTERS], code: u32, s: Core) -> FastStep
+// Kept, point 7: the match is the table of the functions, a line a code, and each arm takes what it needs (d).
+#[tactic(auto, unfolding(crate::specs::Fast::decode, crate::specs::Fast::functions))]
+pub fn decode(mem: &[u32], regs: [u32; REGISTERS], code: u32, s: Core) -> Option<FastStep>
     ensures { result ≡ fast.decode mem.now regs code s }
 {
     match code {
@@ -256,6 +239,6 @@ pub fn decode(mem: &[u32], regs: [u32; REGISTERS], code: u32, s: Core) -> FastSt
         0xD => stl(mem, s),
         0xE => stnl(mem, s),
         0xF => operate(mem, s.oreg, s),
-        _ => decline(),
+        _ => None,
     }
 }

@@ -11,18 +11,24 @@ ghost use Rattle.step_fast.specs.Fast as fast;
 use rules::names::*;
 use rules::{Core, REGISTERS};
 
-// The outcome: done or declined, the registers after the step, and the number of words that it stores: 0; 1, value in word index; or 4,
-// the frame of a call from word index on: value, then A, B and C as they were before the step.
-#[derive(Clone, Copy)]
+// What a step stores: nothing; value in word index; or the frame of a call from word index on: value, then A, B and C as they were before the
+// step.
+#[derive(Clone, Copy, Debug, PartialEq, Eq)]
+pub enum Stored {
+    Nothing,
+    Word { index: u32, value: u32 },
+    Frame { index: u32, value: u32 },
+}
+
+// A common step: the registers after it, and what it stores.
+#[derive(Clone, Copy, Debug, PartialEq, Eq)]
 pub struct FastStep {
-    pub done: bool,
     pub core: Core,
-    pub stores: usize,
-    pub index: u32,
-    pub value: u32,
+    pub stored: Stored,
 }
 
 // Takes the seven registers out of all.
+// Kept, point 4: as plan::core_of, on registers by value; the common step stands beside the plan and does not use it (d).
 fn core_of(regs: [u32; REGISTERS]) -> Core
     ensures { result ≡ registers.core_of regs }
 {
@@ -41,19 +47,22 @@ fn core_of(regs: [u32; REGISTERS]) -> Core
 fn fetched(byte: u32, s: Core) -> Core
     ensures { result ≡ fast.fetched byte s }
 {
-    let mut t = s;
-    t.iptr = words::at_byte(s.iptr, 1);
-    t.oreg = words::with_nibble(byte, s.oreg);
-    t
+    Core {
+        iptr: words::at_byte(s.iptr, 1),
+        oreg: words::with_nibble(byte, s.oreg),
+        ..s
+    }
 }
 
-fn decoded(mem: &[u32], regs: [u32; REGISTERS], byte: u32, s: Core) -> FastStep
+#[tactic(auto, unfolding(crate::specs::Fast::decoded))]
+fn decoded(mem: &[u32], regs: [u32; REGISTERS], byte: u32, s: Core) -> Option<FastStep>
     ensures { result ≡ fast.decoded mem.now regs byte s }
 {
     functions::decode(mem, regs, byte >> 4, fetched(byte, s))
 }
 
-fn fetch(mem: &[u32], regs: [u32; REGISTERS], s: Core) -> FastStep
+#[tactic(auto, unfolding(crate::specs::Fast::fetch, rules::specs::Tests::if_lt))]
+fn fetch(mem: &[u32], regs: [u32; REGISTERS], s: Core) -> Option<FastStep>
     ensures { result ≡ fast.fetch mem.now regs s }
 {
     let at = words::index_of(s.iptr) as usize;
@@ -61,11 +70,11 @@ fn fetch(mem: &[u32], regs: [u32; REGISTERS], s: Core) -> FastStep
         let byte = words::byte_of(words::selector(s.iptr), mem[at]);
         return decoded(mem, regs, byte, s);
     }
-    functions::decline()
+    None
 }
 
-// Does the next instruction as a common step, or declines. This is the step of a machine where nothing is pending (step_pending).
-pub fn common_step(mem: &[u32], regs: [u32; REGISTERS]) -> FastStep
+// Does the next instruction as a common step; None where it declines. This is the step of a machine where nothing is pending (step_pending).
+pub fn common_step(mem: &[u32], regs: [u32; REGISTERS]) -> Option<FastStep>
     ensures { result ≡ fast.fetch mem.now regs (registers.core_of regs) }
 {
     fetch(mem, regs, core_of(regs))

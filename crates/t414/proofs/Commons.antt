@@ -1,10 +1,11 @@
 -- The outcomes of a common step, which is the step of rules, and of a tick with a full journal.
-use mathlib.Core.Path.{◌≡◌, refl}
+use mathlib.Core.Path.{◌≡◌, refl, sym}
 use mathlib.Core.Bool.{true, not}
 use mathlib.Core.List.{List, []}
 use Prim.Native.Nat.{ℕ, ◌+◌, ◌≤◌, ◌<◌}
 use native.Mathlib.Omega.{arith}
 use lib.Dec.{ltb}
+use Rattle.std.specs.Prelude.{Some}
 use lib.ListN.{length}
 use borrow.Author.Tests.{ltb-false}
 use Rattle.rules.specs.Registers.{registers, core_of}
@@ -25,15 +26,12 @@ pub common-step-is :
     (m : Machine) (mem j : List ℕ) (t : FastStep)
     → length m.regs ≡ registers
     → true ≡ nothing_pending m.regs
-    → t ≡ fast.fetch mem m.regs (core_of m.regs)
-    → t.done ≡ true
+    → Some t ≡ fast.fetch mem m.regs (core_of m.regs)
     → commit_or_refuse m mem j 0 (fast.fast_work m.regs t) ≡ commit_or_refuse m mem j 0 (steps.step mem (begin m.regs))
 unfolding fast.fast
-common-step-is m mem j t l k e d =
-    let s : t ≡ fast.fast mem m.regs = rw (← k) e in
-    let q : steps.step mem (begin m.regs) ≡ fast.fast_work m.regs (fast.fast mem m.regs) =
-    fast-step mem m.regs (omega arith) (rw s at d) in
-    rw (s, q)
+common-step-is m mem j t l k e =
+    let s : fast.fast mem m.regs ≡ Some t = rw (← k) (sym e) in
+    rw (fast-step mem m.regs t (omega arith) s)
 
 -- the test for room, read back
 pub room-left : (size end : ℕ) → not (ltb size end) ≡ true → end ≤ size

@@ -5,24 +5,25 @@
 
 ghost use Rattle.history.specs.CallContracts.{FreshContract, StepContract, TickContract, TakeContract, GiveContract, EventContract, UndoContract, ClearContract};
 
+use journal::checks::{first_bad, not_input, not_output, refuse, refuse_at, size_bad};
 use journal_record::bounds::EMPTY_RECORD;
-use rules::names::*;
+use plan::Plan;
+use plan::channel::Channel;
 use rules::{Answer, Machine, Reply};
 
 // Makes a machine with the code loaded: fills memory, does not write the journal.
 pub fn fresh(mem: &mut [u32], journal: &mut [u32], code: &[u8]) -> Reply
     ensures { FreshContract code.now mem.old journal.old result mem.new journal.new }
 {
-    if journal::checks::size_bad(mem.len(), journal.len()) {
-        return journal::checks::refuse(loading::no_machine(), SIZE);
+    if size_bad(mem.len(), journal.len()) {
+        return refuse(loading::no_machine(), Answer::Size);
     }
     if loading::code_bad(mem.len(), code.len()) {
-        return journal::checks::refuse(loading::no_machine(), CODE_SIZE);
+        return refuse(loading::no_machine(), Answer::CodeSize);
     }
     loading::fill(mem, code);
-    let machine = loading::fresh_machine(code.len());
     Reply {
-        machine,
+        machine: loading::fresh_machine(code.len()),
         answer: Answer::Done,
         byte: 0,
     }
@@ -34,37 +35,36 @@ pub fn fresh(mem: &mut [u32], journal: &mut [u32], code: &[u8]) -> Reply
 pub fn step(m: Machine, mem: &mut [u32], journal: &mut [u32]) -> Reply
     ensures { StepContract m mem.old journal.old result mem.new journal.new }
 {
-    let number = journal::checks::first_bad(false, mem.len(), journal.len(), m.depth, m.used);
-    if number != 0 {
-        return journal::checks::refuse(m, number);
+    if let Some(refusal) = first_bad(false, mem.len(), journal.len(), m.depth, m.used) {
+        return refuse(m, refusal);
     }
     let regs = m.regs;
     if journal_small::has_room(journal.len(), m.used) {
         if step_pending::pending::nothing_pending(regs) {
-            let t = step_fast::common_step(mem, regs);
-            let common = t.done;
-            if common {
+            if let Some(t) = step_fast::common_step(mem, regs) {
                 return journal_small::commit_common(m, t, mem, journal);
             }
         }
     }
-    let mut next = m.regs;
-    let used = m.used;
-    let committed = step_engine::plan_and_commit(regs, &mut next, used, mem, journal);
-    let refused = committed.number;
-    if refused != 0 {
-        return journal::checks::refuse_at(m, refused, committed.part, committed.address);
-    }
-    let count = committed.count;
-    let machine = Machine {
-        regs: next,
-        depth: m.depth + 1,
-        used: used + (EMPTY_RECORD + 2 * count),
+    let mut plan = Plan {
+        regs,
+        log: plan::empty_log(),
     };
-    Reply {
-        machine,
-        answer: Answer::Done,
-        byte: 0,
+    let used = m.used;
+    match step_engine::plan_and_commit(&mut plan, regs, used, mem, journal) {
+        Err(refusal) => refuse_at(m, refusal),
+        Ok(count) => {
+            let machine = Machine {
+                regs: plan.regs,
+                depth: m.depth + 1,
+                used: used + 2 * count + EMPTY_RECORD,
+            };
+            Reply {
+                machine,
+                answer: Answer::Done,
+                byte: 0,
+            }
+        }
     }
 }
 
@@ -72,13 +72,12 @@ pub fn step(m: Machine, mem: &mut [u32], journal: &mut [u32]) -> Reply
 pub fn tick(m: Machine, mem: &mut [u32], journal: &mut [u32]) -> Reply
     ensures { TickContract m mem.old journal.old result mem.new journal.new }
 {
-    let number = journal::checks::first_bad(false, mem.len(), journal.len(), m.depth, m.used);
-    if number != 0 {
-        return journal::checks::refuse(m, number);
+    if let Some(refusal) = first_bad(false, mem.len(), journal.len(), m.depth, m.used) {
+        return refuse(m, refusal);
     }
     let regs = m.regs;
     if journal_small::is_full_for_registers(journal.len(), m.used) {
-        return journal::checks::refuse(m, JOURNAL_FULL);
+        return refuse(m, Answer::JournalFull);
     }
     let ticked = links::clock::tick(regs);
     journal_small::commit_regs(m, ticked, mem, journal)
@@ -88,74 +87,67 @@ pub fn tick(m: Machine, mem: &mut [u32], journal: &mut [u32]) -> Reply
 pub fn take(m: Machine, mem: &mut [u32], journal: &mut [u32], channel: u32) -> Reply
     ensures { TakeContract channel m mem.old journal.old result mem.new journal.new }
 {
-    let number = journal::checks::first_bad(
-        journal::checks::not_output(channel),
-        mem.len(),
-        journal.len(),
-        m.depth,
-        m.used,
-    );
-    if number != 0 {
-        return journal::checks::refuse(m, number);
+    let wrong = not_output(channel);
+    if let Some(refusal) = first_bad(wrong, mem.len(), journal.len(), m.depth, m.used) {
+        return refuse(m, refusal);
     }
-    let c = channel as usize;
-    let mut regs = m.regs;
-    let mut log = [0u32; plan::LOG];
-    plan::begin(&mut log);
-    let byte = links::link_calls::taken(&regs, &log, mem, c);
-    links::link_calls::take(&mut regs, &mut log, mem, c);
-    journal::outcome::commit_or_refuse(m, &regs, &log, byte as u8, mem, journal)
+    let c = Channel::new(channel).unwrap();
+    let regs = m.regs;
+    let mut plan = Plan {
+        regs,
+        log: plan::empty_log(),
+    };
+    let byte = links::link_calls::taken(&plan, mem, c);
+    links::link_calls::take(&mut plan, mem, c);
+    journal::outcome::commit_or_refuse(m, &plan, byte as u8, mem, journal)
 }
 
 // Gives a byte to an input link.
 pub fn give(m: Machine, mem: &mut [u32], journal: &mut [u32], channel: u32, byte: u8) -> Reply
     ensures { GiveContract channel byte m mem.old journal.old result mem.new journal.new }
 {
-    let number = journal::checks::first_bad(
-        journal::checks::not_input(channel),
-        mem.len(),
-        journal.len(),
-        m.depth,
-        m.used,
-    );
-    if number != 0 {
-        return journal::checks::refuse(m, number);
+    let wrong = not_input(channel);
+    if let Some(refusal) = first_bad(wrong, mem.len(), journal.len(), m.depth, m.used) {
+        return refuse(m, refusal);
     }
-    let mut regs = m.regs;
-    let mut log = [0u32; plan::LOG];
-    plan::begin(&mut log);
-    links::link_calls::give(&mut regs, &mut log, mem, channel as usize, byte as u32);
-    journal::outcome::commit_or_refuse(m, &regs, &log, 0, mem, journal)
+    let c = Channel::new(channel).unwrap();
+    let regs = m.regs;
+    let mut plan = Plan {
+        regs,
+        log: plan::empty_log(),
+    };
+    links::link_calls::give(&mut plan, mem, c, byte as u32);
+    journal::outcome::commit_or_refuse(m, &plan, 0, mem, journal)
 }
 
 // Raises the event pin.
 pub fn event(m: Machine, mem: &mut [u32], journal: &mut [u32]) -> Reply
     ensures { EventContract m mem.old journal.old result mem.new journal.new }
 {
-    let number = journal::checks::first_bad(false, mem.len(), journal.len(), m.depth, m.used);
-    if number != 0 {
-        return journal::checks::refuse(m, number);
+    if let Some(refusal) = first_bad(false, mem.len(), journal.len(), m.depth, m.used) {
+        return refuse(m, refusal);
     }
-    let mut regs = m.regs;
-    let mut log = [0u32; plan::LOG];
-    plan::begin(&mut log);
-    links::link_calls::event(&mut regs, &mut log);
-    journal::outcome::commit_or_refuse(m, &regs, &log, 0, mem, journal)
+    let regs = m.regs;
+    let mut plan = Plan {
+        regs,
+        log: plan::empty_log(),
+    };
+    links::link_calls::event(&mut plan);
+    journal::outcome::commit_or_refuse(m, &plan, 0, mem, journal)
 }
 
 // Undoes the last accepted call.
 pub fn undo(m: Machine, mem: &mut [u32], journal: &mut [u32]) -> Reply
     ensures { UndoContract m mem.old journal.old result mem.new journal.new }
 {
-    let number = journal::checks::first_bad(false, mem.len(), journal.len(), m.depth, m.used);
-    if number != 0 {
-        return journal::checks::refuse(m, number);
+    if let Some(refusal) = first_bad(false, mem.len(), journal.len(), m.depth, m.used) {
+        return refuse(m, refusal);
     }
     if m.depth == 0 {
-        return journal::checks::refuse(m, NOTHING_TO_UNDO);
+        return refuse(m, Answer::NothingToUndo);
     }
     if journal::undo::record_bad(journal, m.used, mem.len()) {
-        return journal::checks::refuse(m, JOURNAL_BAD);
+        return refuse(m, Answer::JournalBad);
     }
     journal::undo::undo_last(m, mem, journal)
 }
@@ -164,17 +156,15 @@ pub fn undo(m: Machine, mem: &mut [u32], journal: &mut [u32]) -> Reply
 pub fn clear(m: Machine, mem: &mut [u32], journal: &mut [u32]) -> Reply
     ensures { ClearContract m mem.old journal.old result mem.new journal.new }
 {
-    if journal::checks::size_bad(mem.len(), journal.len()) {
-        return journal::checks::refuse(m, SIZE);
+    if size_bad(mem.len(), journal.len()) {
+        return refuse(m, Answer::Size);
     }
-    let regs = m.regs;
-    let machine = Machine {
-        regs,
-        depth: 0,
-        used: 0,
-    };
     Reply {
-        machine,
+        machine: Machine {
+            depth: 0,
+            used: 0,
+            ..m
+        },
         answer: Answer::Done,
         byte: 0,
     }

@@ -28,199 +28,157 @@
 // Here are the calls and the loops; reading and writing are in program_io, which makes no public call.
 #![tactic(auto)]
 
-ghost use Rattle.std.specs.Prelude.{◌+◌, ◌*◌, ◌≤◌, ◌≡◌, length};
-ghost use Rattle.program_io.specs.Sizes.{case_head, most_words, most_journal, most_response};
+ghost use Rattle.std.specs.Prelude.{◌≡◌, ◌+◌, ◌*◌, ◌≤◌, length};
+ghost use Rattle.program_io.specs.Sizes.{most_words, most_journal, most_response};
 
-use program_io::case::{Counts, Head};
-use program_io::place::Place;
-use program_io::{answers, case, place, room};
-use rules::Reply;
+use program_io::case;
+use program_io::case::{Call, Counts, Fault, Head, JOURNAL, WORDS};
+use program_io::place::{Input, Output};
+use program_io::room::{BLOCK, zeros};
+use rules::{Answer, Machine, Reply};
 
-// Steps n times after the reply r, or until a step is refused. This is the only place that calls step, so that the compiler can
-// inline the whole step into the loop. The loop keeps the reply, not the machine, which saves a copy for each call.
+// Makes a call n times after the reply first, or until one is refused. The loop keeps the reply, not the machine, which saves a copy for each
+// call.
+fn repeated<F: Fn(Machine, &mut [u32], &mut [u32]) -> Reply>(
+    n: u32,
+    first: Reply,
+    mem: &mut [u32],
+    journal: &mut [u32],
+    call: F,
+) -> Reply
+    requires { F.IsAlwaysCallable call }
+{
+    let mut reply = first;
+    for _ in 0..n {
+        if !matches!(reply.answer, Answer::Done) {
+            return reply;
+        }
+        reply = call(reply.machine, mem, journal);
+    }
+    reply
+}
+
+// Steps n times after the reply r. This is the only place that calls step, so that the compiler can inline the whole step into the loop. The call
+// stands in a closure, since the name alone would cost a tick 20 instructions.
+// Kept, point 2: ticks and undos repeat another call; each is one line over repeated, and the one place that makes its call (d).
 fn steps(n: u32, r: Reply, mem: &mut [u32], journal: &mut [u32]) -> Reply {
-    let mut reply = r;
-    let mut left = n;
-    while left > 0 {
-        let answer = reply.answer;
-        if answers::one_if_done(answer) == 0 {
-            return reply;
-        }
-        reply = t414::step(reply.machine, mem, journal);
-        left -= 1;
-    }
-    reply
+    repeated(
+        n,
+        r,
+        mem,
+        journal,
+        |m, mem, journal| t414::step(m, mem, journal),
+    )
 }
 
-// Ticks n times after the reply r, or until a tick is refused. A loop for each call, since one loop with a match in it makes a
-// step slower.
+// Ticks n times after the reply r.
 fn ticks(n: u32, r: Reply, mem: &mut [u32], journal: &mut [u32]) -> Reply {
-    let mut reply = r;
-    let mut left = n;
-    while left > 0 {
-        let answer = reply.answer;
-        if answers::one_if_done(answer) == 0 {
-            return reply;
-        }
-        reply = t414::tick(reply.machine, mem, journal);
-        left -= 1;
-    }
-    reply
+    repeated(
+        n,
+        r,
+        mem,
+        journal,
+        |m, mem, journal| t414::tick(m, mem, journal),
+    )
 }
 
-// Undoes n times after the reply r, or until an undo is refused.
+// Undoes n times after the reply r.
 fn undos(n: u32, r: Reply, mem: &mut [u32], journal: &mut [u32]) -> Reply {
-    let mut reply = r;
-    let mut left = n;
-    while left > 0 {
-        let answer = reply.answer;
-        if answers::one_if_done(answer) == 0 {
-            return reply;
-        }
-        reply = t414::undo(reply.machine, mem, journal);
-        left -= 1;
-    }
-    reply
+    repeated(
+        n,
+        r,
+        mem,
+        journal,
+        |m, mem, journal| t414::undo(m, mem, journal),
+    )
 }
 
-// Clears the journal, then makes the steps of a round.
-fn forward(n: u32, r: Reply, mem: &mut [u32], journal: &mut [u32]) -> Reply {
-    let cleared = t414::clear(r.machine, mem, journal);
-    steps(n, cleared, mem, journal)
-}
-
-// Makes the steps, ticks and undos of a round.
-fn round(c: Counts, r: Reply, mem: &mut [u32], journal: &mut [u32]) -> Reply {
-    let stepped = forward(c.steps, r, mem, journal);
+// Clears the journal, then makes the steps, ticks and undos of a round.
+fn round(c: Counts, m: Machine, mem: &mut [u32], journal: &mut [u32]) -> Reply {
+    let cleared = t414::clear(m, mem, journal);
+    let stepped = steps(c.steps, cleared, mem, journal);
     let ticked = ticks(c.ticks, stepped, mem, journal);
     undos(c.undos, ticked, mem, journal)
 }
 
 // Makes the steps before the first round, then the rounds.
 fn rounds(c: Counts, r: Reply, mem: &mut [u32], journal: &mut [u32]) -> Reply {
-    let mut reply = steps(c.before, r, mem, journal);
-    let mut left = c.rounds;
-    while left > 0 {
-        let answer = reply.answer;
-        if answers::one_if_done(answer) == 0 {
-            return reply;
-        }
-        reply = round(c, reply, mem, journal);
-        left -= 1;
-    }
-    reply
-}
-
-// Makes the call of a case on its machine r; a repeat (8) begins as fresh does. A call outside 0 to 8 was stopped before
-// (program_io::case).
-fn reply_to(
-    call: u32,
-    channel: u32,
-    byte: u8,
-    r: Reply,
-    mem: &mut [u32],
-    journal: &mut [u32],
-    code: &[u8],
-) -> Reply {
-    match call % 8 {
-        0 => t414::fresh(mem, journal, code),
-        1 => steps(1, r, mem, journal),
-        2 => ticks(1, r, mem, journal),
-        3 => t414::take(r.machine, mem, journal, channel),
-        4 => t414::give(r.machine, mem, journal, channel, byte),
-        5 => t414::event(r.machine, mem, journal),
-        6 => undos(1, r, mem, journal),
-        _ => t414::clear(r.machine, mem, journal),
-    }
-}
-
-// Loads the case h at byte at of input and makes its call, then the rounds, of which only a repeat has any. mem and journal are
-// as long as the case says.
-fn make_call(h: Head, input: &[u8], at: usize, mem: &mut [u32], journal: &mut [u32]) -> Reply
-    requires end_in_bounds { (at + h.end ≤ length input.now) × (h.from ≤ h.code) × (h.code ≤ h.end) }
-    requires from_value { h.from ≡ case_head + 4 * length mem.old + 4 * length journal.old }
-{
-    let start = at + h.code;
-    let end = at + h.end;
-    let code = &input[start..end];
-    let c = case::counted(input, at + h.from, start);
-    let r = case::load(input, at, mem, journal);
-    let first = reply_to(h.call, h.channel, h.byte, r, mem, journal, code);
-    rounds(c, first, mem, journal)
-}
-
-// Answers the case h at the place p: makes its call and writes the response.
-fn answered(
-    p: Place,
-    h: Head,
-    input: &[u8],
-    output: &mut [u8],
-    mem: &mut [u32],
-    journal: &mut [u32],
-) -> Place
-    requires size_bound { (p.at + h.size ≤ p.end) × (p.end ≤ length input.now) × (p.out + most_response ≤ length output.old) }
-    requires mem_len_bound { (length mem.old ≤ most_words) × (length journal.old ≤ most_journal) }
-    requires from_value { (h.from ≡ case_head + 4 * length mem.old + 4 * length journal.old) × (h.from ≤ h.code) × (h.code ≤ h.end) × (h.end ≤ h.size) }
-    ensures { (result.at ≤ result.end) × (result.end ≡ p.end) × (result.out ≤ length output.new) }
-{
-    let r = make_call(h, input, p.at, mem, journal);
-    place::answered(p, h.size, r, mem, journal, output)
-}
-
-// Answers the case at the place p where it can be answered; else returns the place with the reason.
-fn answer_case(
-    p: Place,
-    input: &[u8],
-    output: &mut [u8],
-    mem: &mut [u32],
-    journal: &mut [u32],
-) -> Place
-    requires at_le_end { (p.at ≤ p.end) × (p.end ≤ length input.now) × (p.out + most_response ≤ length output.old) }
-    requires most_words_in_bounds { (most_words ≤ length mem.old) × (most_journal ≤ length journal.old) }
-    ensures { (result.at ≤ result.end) × (result.end ≡ p.end) × (result.out ≤ length output.new) }
-{
-    let h = case::look(input, p.at, p.end);
-    if h.state != case::LOOK {
-        return place::held(p, h.state);
-    }
-    let words = h.words;
-    let records = h.journal;
-    answered(
-        p,
-        h,
-        input,
-        output,
-        &mut mem[..words],
-        &mut journal[..records],
+    let stepped = steps(c.before, r, mem, journal);
+    repeated(
+        c.rounds,
+        stepped,
+        mem,
+        journal,
+        |m, mem, journal| round(c, m, mem, journal),
     )
 }
 
-// Answers cases until there is a reason to stop. The input has no bound, so the loop has a count of turns that no run can use up.
+// Makes the call of a case after the reply r; a repeat begins as fresh does.
+// Kept, point 7: a match on the enum of calls, an arm a call, since each takes other arguments (d).
+fn reply_to(call: Call, r: Reply, mem: &mut [u32], journal: &mut [u32], code: &[u8]) -> Reply {
+    let m = r.machine;
+    match call {
+        Call::Fresh => t414::fresh(mem, journal, code),
+        Call::Step => steps(1, r, mem, journal),
+        Call::Tick => ticks(1, r, mem, journal),
+        Call::Take(channel) => t414::take(m, mem, journal, channel),
+        Call::Give(channel, byte) => t414::give(m, mem, journal, channel, byte),
+        Call::Event => t414::event(m, mem, journal),
+        Call::Undo => undos(1, r, mem, journal),
+        Call::Clear => t414::clear(m, mem, journal),
+        Call::Repeat(c) => rounds(c, t414::fresh(mem, journal, code), mem, journal),
+    }
+}
+
+// Answers the first case of the input, whose head is h.
+fn answer(h: Head, input: &mut Input, output: &mut Output, mem: &mut [u32], journal: &mut [u32])
+    requires size { h.size + input.old.at ≤ input.old.end }
+    requires room { output.old.used + most_response ≤ length output.old.buffer.now }
+    requires lengths { (most_words ≤ length mem.old) × (most_journal ≤ length journal.old) }
+    ensures { length output.new.buffer.now ≡ length output.old.buffer.now }
+{
+    let mem = &mut mem[..h.words];
+    let journal = &mut journal[..h.journal];
+    let case = &input.unanswered()[..h.size];
+    let r = case::load(case, mem, journal);
+    let reply = reply_to(h.call, r, mem, journal, &case[h.code..h.end]);
+    output.respond(reply, mem, journal);
+    input.answered(h.size);
+}
+
+// Answers cases until the input ends; an error is the reason to stop before. The input has no bound, so the loop has a count of turns that no
+// run can use up.
 fn answer_all(
     rt: &HostRuntime,
-    input: &mut [u8],
-    output: &mut [u8],
+    input: &mut Input,
+    output: &mut Output,
     mem: &mut [u32],
     journal: &mut [u32],
-) -> Place
-    requires { (most_response ≤ length output.old) × (most_words ≤ length mem.old) × (most_journal ≤ length journal.old) }
-    ensures { result.out ≤ length output.new }
+) -> Result<(), Fault>
+    requires room { output.old.used + most_response ≤ length output.old.buffer.now }
+    requires lengths { (most_words ≤ length mem.old) × (most_journal ≤ length journal.old) }
 {
-    let mut p = place::start();
-    let mut turns = u64::MAX;
-    while turns > 0 {
-        p = answer_case(p, input, output, mem, journal);
-        p = place::ready(rt, p, input, output);
-        turns = place::next(p, turns);
+    for _ in 0..u64::MAX {
+        match case::look(input.unanswered())? {
+            Some(head) => answer(head, input, output, mem, journal),
+            None => {
+                if !input.refill(rt)? {
+                    return Ok(());
+                }
+            }
+        }
+        output.make_room(rt)?;
     }
-    p
+    Ok(())
 }
 
 fn main(rt: HostRuntime) {
-    let mut input = room::bytes();
-    let mut output = room::bytes();
-    let mut mem = room::memory();
-    let mut journal = room::journal();
-    let p = answer_all(&rt, &mut input, &mut output, &mut mem, &mut journal);
-    place::finish(&rt, p, &output);
+    let mut unanswered = zeros::<u8, BLOCK>();
+    let mut unwritten = zeros::<u8, BLOCK>();
+    let mut mem = zeros::<u32, WORDS>();
+    let mut journal = zeros::<u32, JOURNAL>();
+    let mut input = Input::new(&mut unanswered);
+    let mut output = Output::new(&mut unwritten);
+    let outcome = answer_all(&rt, &mut input, &mut output, &mut mem, &mut journal);
+    output.finish(&rt, outcome);
 }

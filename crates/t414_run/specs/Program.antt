@@ -3,6 +3,7 @@ use Rattle.std.specs.Prelude.{ℕ, zero, suc, ◌+◌, List}
 use Rattle.rules.specs.Tests.{if_eq}
 use Rattle.rules.specs.Calls.{Outcome, fresh, step}
 use Rattle.rules.specs.declared.Machine.{Machine}
+use Rattle.program_io.specs.Answers.{numbers_of}
 use Rattle.t414_run.specs.declared.Tally.{Tally}
 
 -- the fields of the program's line, the part and address of its last field (02, No. 1), and the lent words after the run
@@ -22,9 +23,9 @@ result_of t mem j =
     record {
       machine = t.machine;
       steps = t.steps;
-      refusal = t.refusal.number;
-      part = t.refusal.part;
-      address = t.refusal.address;
+      refusal = (numbers_of t.refusal).0;
+      part = (numbers_of t.refusal).1;
+      address = (numbers_of t.refusal).2;
       memory = mem;
       journal = j;
     }

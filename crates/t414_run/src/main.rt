@@ -3,21 +3,21 @@
 // address (02, No. 1).
 #![tactic(auto)]
 
-ghost use Rattle.std.specs.Prelude.{◌≡◌, ◌≤◌, length};
+ghost use Rattle.std.specs.Prelude.{◌≡◌};
 ghost use Rattle.t414_run.specs.Program as program;
 ghost use Rattle.t414_run.specs.Program.{result_of};
 
-use program_io::answers::Refusal;
-use program_io::lines::Written;
-use program_io::{answers, input, lines};
+use program_io::answers::{MOST_STEPS, Refusal, refusal_of};
+use program_io::input::read_full;
+use program_io::lines::line;
 use rules::Machine;
 
-// The fields of the line.
+// The end of a run: the machine, the accepted steps, and the refusal that ended it, where there is one.
 #[derive(Clone, Copy)]
 struct Tally {
     machine: Machine,
     steps: u64,
-    refusal: Refusal,
+    refusal: Option<Refusal>,
 }
 
 // Steps until a refusal, and 100 times at most. A refused step returns the machine unchanged. This is the only place that calls
@@ -25,28 +25,23 @@ struct Tally {
 fn run(m: Machine, mem: &mut [u32], journal: &mut [u32]) -> Tally
     ensures { result_of result mem.new journal.new ≡ program.run 100 0 m mem.old journal.old }
 {
-    let most = answers::most_steps();
     let mut machine = m;
-    let mut steps = 0;
-    while steps < most {
+    for steps in 0..MOST_STEPS {
         let reply = t414::step(machine, mem, journal);
-        let answer = reply.answer;
-        let refusal = answers::refusal_of(answer);
-        let next = reply.machine;
-        machine = next;
-        if refusal.number != 0 {
+        machine = reply.machine;
+        let refusal = refusal_of(reply.answer);
+        if refusal.is_some() {
             return Tally {
-                machine: machine,
-                steps: steps,
-                refusal: refusal,
+                machine,
+                steps,
+                refusal,
             };
         }
-        steps += 1;
     }
     Tally {
-        machine: machine,
-        steps: steps,
-        refusal: answers::plain(0),
+        machine,
+        steps: MOST_STEPS,
+        refusal: None,
     }
 }
 
@@ -55,38 +50,23 @@ fn run_code(mem: &mut [u32], journal: &mut [u32], code: &[u8]) -> Tally
     ensures { result_of result mem.new journal.new ≡ program.program code.now mem.old journal.old }
 {
     let reply = t414::fresh(mem, journal, code);
-    let answer = reply.answer;
     let machine = reply.machine;
-    let refusal = answers::refusal_of(answer);
-    if refusal.number != 0 {
+    let refusal = refusal_of(reply.answer);
+    if refusal.is_some() {
         return Tally {
-            machine: machine,
+            machine,
             steps: 0,
-            refusal: refusal,
+            refusal,
         };
     }
     run(machine, mem, journal)
 }
 
-// Writes a line on standard output or standard error.
-fn print(stream: &impl Print, line: Written)
-    requires { line.size ≤ length line.text }
-{
-    let text = line.text;
-    let n = line.size;
-    let _ = stream.write_all(&text[..n]);
-}
-
 // Prints the line, and on standard error the access that was outside memory, where there is one.
 fn print_tally(rt: &HostRuntime, t: Tally) {
-    let m = t.machine;
-    let refusal = t.refusal;
-    print(&rt.stdout(), lines::line(m, t.steps, refusal));
-    if refusal.part != 0 {
-        print(
-            &rt.stderr(),
-            lines::outside_line(refusal.part, refusal.address),
-        );
+    let _ = rt.println(line(t.machine, t.steps, t.refusal));
+    if let Some(Refusal::Outside(access)) = t.refusal {
+        let _ = rt.eprintln(access);
     }
 }
 
@@ -94,6 +74,6 @@ fn main(rt: HostRuntime) {
     let mut mem = [0u32; 1024];
     let mut journal = [0u32; 8192];
     let mut code = [0u8; 4021];
-    let got = input::read_full(&rt, &mut code);
+    let got = read_full(&rt, &mut code);
     print_tally(&rt, run_code(&mut mem, &mut journal, &code[..got]));
 }

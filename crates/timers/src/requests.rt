@@ -1,142 +1,104 @@
 // HandleTimerRequest (000 1.8): the front process leaves the queue, and runs if it was waiting.
-ghost use Rattle.std.specs.Prelude.{◌≡◌, ◌<◌};
+ghost use Rattle.std.specs.Prelude.{◌≡◌};
 ghost use Rattle.rules.specs.Timers as timers;
-ghost use Rattle.plan.specs.View.{view, Room, Grown};
+ghost use Rattle.plan.specs.Level.{number};
+ghost use Rattle.plan.specs.View.{work_of, Room, Grown};
 
-use crate::timer_queue::{set_next, t_enabled, tptr_loc};
+use crate::timer_queue::{set_next, tptr_loc};
 use memory::loads::load_word;
 use memory::store::w_index_word;
-use plan::{LOG, lower, refuse};
-use rules::REGISTERS;
+use plan::level::Level;
+use plan::{Plan, lower, refuse};
 use rules::names::*;
 use scheduling::running::run;
 use words::at_word;
 
 // Makes the process ready and runs it.
-fn timed_out(
-    regs: &mut [u32; REGISTERS],
-    log: &mut [u32; LOG],
-    mem: &[u32],
-    queue: usize,
-    front: u32,
-)
-    requires { (queue < 2) × Room 8 log.old }
-    ensures { (view regs.new log.new ≡ timers.timed_out mem.now queue front (view regs.old log.old)) × Grown 8 log.old log.new }
+#[tactic(auto, unfolding(rules::specs::Timers::timed_out))]
+fn timed_out(plan: &mut Plan, mem: &[u32], queue: Level, front: u32)
+    requires { Room 8 plan.old.log }
+    ensures { (work_of plan.new ≡ timers.timed_out mem.now (number queue) front (work_of plan.old)) × Grown 8 plan.old.log plan.new.log }
 {
-    let descriptor = front | (queue as u32);
-    w_index_word(log, mem, front, POINTER_S, READY);
-    run(regs, log, mem, descriptor);
+    let descriptor = front | queue.number();
+    w_index_word(&mut plan.log, mem, front, POINTER_S, READY);
+    run(plan, mem, descriptor);
 }
 
 // Runs a waiting process, leaves a ready one; refuses with STOP on any other status (DECISIONS 26).
-fn timer_status(
-    regs: &mut [u32; REGISTERS],
-    log: &mut [u32; LOG],
-    mem: &[u32],
-    queue: usize,
-    front: u32,
-    status: u32,
-)
-    requires { (queue < 2) × Room 8 log.old }
-    ensures { (view regs.new log.new ≡ timers.timer_status mem.now queue front status (view regs.old log.old)) × Grown 8 log.old log.new }
+#[tactic(auto, using(plan::proofs::Decided::tests), unfolding(rules::specs::Timers::timer_status))]
+fn timer_status(plan: &mut Plan, mem: &[u32], queue: Level, front: u32, status: u32)
+    requires { Room 8 plan.old.log }
+    ensures { (work_of plan.new ≡ timers.timer_status mem.now (number queue) front status (work_of plan.old)) × Grown 8 plan.old.log plan.new.log }
 {
-    if status == READY {
-        return;
+    match status {
+        READY => {}
+        WAITING => timed_out(plan, mem, queue, front),
+        _ => refuse(&mut plan.log, STOP),
     }
-    if status == WAITING {
-        timed_out(regs, log, mem, queue, front);
-        return;
-    }
-    refuse(log, STOP);
 }
 
 // Loads the status of the front process, at Pointer.s.
-fn timer_wake(
-    regs: &mut [u32; REGISTERS],
-    log: &mut [u32; LOG],
-    mem: &[u32],
-    queue: usize,
-    front: u32,
-)
-    requires { (queue < 2) × Room 8 log.old }
-    ensures { (view regs.new log.new ≡ timers.timer_wake mem.now queue front (view regs.old log.old)) × Grown 8 log.old log.new }
+#[tactic(auto, unfolding(rules::specs::Timers::timer_wake))]
+fn timer_wake(plan: &mut Plan, mem: &[u32], queue: Level, front: u32)
+    requires { Room 8 plan.old.log }
+    ensures { (work_of plan.new ≡ timers.timer_wake mem.now (number queue) front (work_of plan.old)) × Grown 8 plan.old.log plan.new.log }
 {
     let a = at_word(front, POINTER_S);
-    let status = load_word(log, mem, a);
-    timer_status(regs, log, mem, queue, front, status);
+    let status = load_word(&mut plan.log, mem, a);
+    timer_status(plan, mem, queue, front, status);
 }
 
 // Sets the next time to that of the second process, if there is one.
-fn timer_next(
-    regs: &mut [u32; REGISTERS],
-    log: &mut [u32; LOG],
-    mem: &[u32],
-    queue: usize,
-    second: u32,
-)
-    requires { (queue < 2) × Room 0 log.old }
-    ensures { (view regs.new log.new ≡ timers.timer_next mem.now queue second (view regs.old log.old)) × Grown 0 log.old log.new }
+#[tactic(auto, using(plan::proofs::Decided::tests), unfolding(rules::specs::Timers::timer_next))]
+fn timer_next(plan: &mut Plan, mem: &[u32], queue: Level, second: u32)
+    requires { Room 0 plan.old.log }
+    ensures { (work_of plan.new ≡ timers.timer_next mem.now (number queue) second (work_of plan.old)) × Grown 0 plan.old.log plan.new.log }
 {
-    if second == NOT_PROCESS {
-        return;
+    if second != NOT_PROCESS {
+        set_next(plan, mem, queue, second);
     }
-    set_next(regs, log, mem, queue, second);
 }
 
 // Unlinks the front process: TLink.s gets TimeSet.p, and the second process becomes the front.
-fn timer_unlink(
-    regs: &mut [u32; REGISTERS],
-    log: &mut [u32; LOG],
-    mem: &[u32],
-    queue: usize,
-    front: u32,
-    second: u32,
-)
-    requires { (queue < 2) × Room 2 log.old }
-    ensures { (view regs.new log.new ≡ timers.timer_unlink mem.now queue front second (view regs.old log.old)) × Grown 2 log.old log.new }
+#[tactic(auto, unfolding(rules::specs::Timers::timer_unlink))]
+fn timer_unlink(plan: &mut Plan, mem: &[u32], queue: Level, front: u32, second: u32)
+    requires { Room 2 plan.old.log }
+    ensures { (work_of plan.new ≡ timers.timer_unlink mem.now (number queue) front second (work_of plan.old)) × Grown 2 plan.old.log plan.new.log }
 {
-    w_index_word(log, mem, front, TLINK_S, TIME_SET);
-    w_index_word(log, mem, TIMER_BASE, queue as u32, second);
-    timer_next(regs, log, mem, queue, second);
+    w_index_word(&mut plan.log, mem, front, TLINK_S, TIME_SET);
+    w_index_word(&mut plan.log, mem, TIMER_BASE, queue.number(), second);
+    timer_next(plan, mem, queue, second);
 }
 
 // Serves the queue, then its front process (DECISIONS 41).
-fn timer_front(
-    regs: &mut [u32; REGISTERS],
-    log: &mut [u32; LOG],
-    mem: &[u32],
-    queue: usize,
-    front: u32,
-)
-    requires { (queue < 2) × Room 10 log.old }
-    ensures { (view regs.new log.new ≡ timers.timer_front mem.now queue front (view regs.old log.old)) × Grown 10 log.old log.new }
+#[tactic(auto, unfolding(rules::specs::Timers::timer_front))]
+fn timer_front(plan: &mut Plan, mem: &[u32], queue: Level, front: u32)
+    requires { Room 10 plan.old.log }
+    ensures { (work_of plan.new ≡ timers.timer_front mem.now (number queue) front (work_of plan.old)) × Grown 10 plan.old.log plan.new.log }
 {
     let a = at_word(front, TLINK_S);
-    let second = load_word(log, mem, a);
-    timer_unlink(regs, log, mem, queue, front, second);
-    timer_wake(regs, log, mem, queue, front);
+    let second = load_word(&mut plan.log, mem, a);
+    timer_unlink(plan, mem, queue, front, second);
+    timer_wake(plan, mem, queue, front);
 }
 
 // Loads the front process, at TPtrLoc.
-fn timer_serve(regs: &mut [u32; REGISTERS], log: &mut [u32; LOG], mem: &[u32], queue: usize)
-    requires { (queue < 2) × Room 10 log.old }
-    ensures { (view regs.new log.new ≡ timers.timer_serve mem.now queue (view regs.old log.old)) × Grown 10 log.old log.new }
+#[tactic(auto, unfolding(rules::specs::Timers::timer_serve))]
+fn timer_serve(plan: &mut Plan, mem: &[u32], queue: Level)
+    requires { Room 10 plan.old.log }
+    ensures { (work_of plan.new ≡ timers.timer_serve mem.now (number queue) (work_of plan.old)) × Grown 10 plan.old.log plan.new.log }
 {
     let a = tptr_loc(queue);
-    let front = load_word(log, mem, a);
-    timer_front(regs, log, mem, queue, front);
+    let front = load_word(&mut plan.log, mem, a);
+    timer_front(plan, mem, queue, front);
 }
 
 // HandleTimerRequest (000 1.8): disables the timer, and serves its queue.
-pub fn handle_timer_request(
-    regs: &mut [u32; REGISTERS],
-    log: &mut [u32; LOG],
-    mem: &[u32],
-    queue: usize,
-)
-    requires { (queue < 2) × Room 10 log.old }
-    ensures { (view regs.new log.new ≡ timers.handle_timer_request mem.now queue (view regs.old log.old)) × Grown 10 log.old log.new }
+#[tactic(auto, unfolding(rules::specs::Timers::handle_timer_request))]
+pub fn handle_timer_request(plan: &mut Plan, mem: &[u32], queue: Level)
+    requires { Room 10 plan.old.log }
+    ensures { (work_of plan.new ≡ timers.handle_timer_request mem.now (number queue) (work_of plan.old)) × Grown 10 plan.old.log plan.new.log }
 {
-    lower(regs, FLAGS_REG, t_enabled(queue));
-    timer_serve(regs, log, mem, queue);
+    lower(&mut plan.regs, FLAGS_REG, queue.timer_enabled());
+    timer_serve(plan, mem, queue);
 }

@@ -7,31 +7,32 @@ ghost use Rattle.rules.specs.Words as words;
 ghost use Rattle.rules.specs.Core as core;
 
 // Adds two words, wrapping at 32 bits: clocks, counts, times.
+// Kept, point 2: at_byte is the same sum under another name, since rules has a definition for each (000: AtByte; 01: clocks and counts wrap).
 pub fn wrap_add(a: u32, b: u32) -> u32
     ensures { result ≡ words.wrap_add a b }
 {
-    std::num::wrapping_add_u32(a, b)
+    a.wrapping_add(b)
 }
 
 // AtByte: returns the address n bytes after base, wrapping.
 pub fn at_byte(base: u32, n: u32) -> u32
     ensures { result ≡ words.at_byte base n }
 {
-    std::num::wrapping_add_u32(base, n)
+    base.wrapping_add(n)
 }
 
 // AtWord: returns the address n words after base, wrapping; keeps the low two bits of base.
 pub fn at_word(base: u32, n: u32) -> u32
     ensures { result ≡ words.at_word base n }
 {
-    std::num::wrapping_add_u32(base, n << 2)
+    base.wrapping_add(n << 2)
 }
 
 // Returns the distance of an address from the start of memory, in bytes.
 pub fn offset(a: u32) -> u32
     ensures { result ≡ words.offset a }
 {
-    std::num::wrapping_add_u32(a, 0x8000_0000)
+    a.wrapping_add(0x8000_0000)
 }
 
 // Returns the index of the memory word at an address.
@@ -49,17 +50,19 @@ pub fn selector(a: u32) -> u32
 }
 
 // Tests whether a word, read as a signed number, is above 0.
+#[tactic(auto, unfolding(rules::specs::Words::positive))]
 pub fn positive(x: u32) -> bool
     ensures { result ≡ words.positive x }
 {
-    if 0 < x { x < 0x8000_0000 } else { false }
+    0 < x && x < 0x8000_0000
 }
 
 // Later (t1 AFTER t2): tests the wrapped difference of the times, since times wrap.
+#[tactic(auto, unfolding(rules::specs::Words::later, rules::specs::Words::positive, rules::specs::Words::sign, rules::specs::Words::restore_to_range, rules::specs::Tests::if_lt))]
 pub fn later(t1: u32, t2: u32) -> bool
     ensures { result ≡ words.later t1 t2 }
 {
-    positive(std::num::wrapping_sub_u32(t1, t2))
+    positive(t1.wrapping_sub(t2))
 }
 
 // Extracts byte j of a word; byte 0 is the least significant.

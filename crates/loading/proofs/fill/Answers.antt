@@ -1,28 +1,19 @@
-use borrow.Author.Rules.{rules}
-use native.Mathlib.Omega.{arith}
-use mathlib.Core.Path.{refl, sym, ◌∙◌}
-use lib.ListN.{length, length-set}
-use Rattle.loading.proofs.Loading.{fresh_turn, fresh-none, fresh_all}
+use Rattle.std.proofs.Common.{◌+◌, ◌-◌, ◌≡◌, ◌∙◌, arith, length, refl}
+use Rattle.rules.specs.Calls.{fresh_memory}
+use Rattle.loading.proofs.Loading.{fresh_turn, fresh_all}
 use Rattle.loading.proofs.fill.Goals as goal
 
-pub loop-left-init : goal.loop-left-init
-loop-left-init c = record { len = refl; small = search rules; here = omega arith; rest = refl }
-
-pub loop-left-preserved : goal.loop-left-preserved
-loop-left-preserved c =
-    let a = c.args in
-    let inv = c.loop-left.invariant in
-    record {
-      len = simp length-set inv.len;
-      small = inv.small;
-      here = omega arith;
-      rest = sym (fresh_turn a.code.now c.loop-left.mem c.loop-left.i c.loop-left.left c.fresh_word.result c.loop-left-test.true c.fresh_word.ensures) ∙ inv.rest;
-    }
-
-pub shape_of-mem : goal.shape_of-mem
-shape_of-mem c = c.loop-left.invariant.len
+pub loop-i-preserved : goal.loop-i-preserved
+loop-i-preserved c =
+    let l = c.loop-i in
+    let n = length c.args.mem.now in
+    fresh_turn c.args.code.now l.mem l.i (n - l.i) (n - (l.i + 1)) c.fresh_word.result (omega arith) (omega arith) c.fresh_word.ensures
+    ∙ l.invariant
 
 pub returns : goal.returns
+unfolding fresh_memory
 returns c =
-    let a = c.args in
-    sym (fresh-none a.code.now c.loop-left.mem c.loop-left.i c.loop-left.left (omega arith)) ∙ c.loop-left.invariant.rest ∙ fresh_all a.code.now a.mem.now (length a.mem.now) refl
+    let l = c.loop-i in
+    let n = length c.args.mem.now in
+    let e : n - l.i ≡ 0 = omega arith in
+    (rw e at l.invariant) ∙ fresh_all c.args.code.now c.args.mem.now n refl

@@ -1,15 +1,22 @@
 use Rattle.std.proofs.Common.{rules}
 use Rattle.rules.proofs.Tests.{yes_eq, no_eq}
 use Rattle.rules.specs.Work.{append}
-use Rattle.plan.proofs.Laws.{move-view}
+use Rattle.plan.specs.View.{stores_of, number_of, cut_of, source_of, target_of, count_of}
+use Rattle.plan.proofs.Logged.{logged_move, logged-plain}
 use Rattle.plan.proofs.append_move.Goals as goal
 
 pub returns-then-log-eq0 : goal.returns-then-log-eq0
-unfolding append
+unfolding append stores_of
 returns-then-log-eq0 c =
     let a = c.args in
-    let v = move-view a.s a.d a.n a.log.now (search rules) (search rules) (search rules) (search rules) in
-    (λ regs. rw (yes_eq c.if-log-eq0.true) (v.0 regs), v.1)
+    let g = a.log.now in (
+      λ regs. rw (
+        yes_eq c.if-log-eq0.true,
+        logged_move g.singles (search rules) (number_of g) a.s a.d a.n (search rules),
+        logged-plain g.singles (search rules) (number_of g) (cut_of g) (source_of g) (target_of g) (count_of g) (search rules) (search rules),
+      ),
+      search rules,
+    )
 
 pub returns-else-log-eq0 : goal.returns-else-log-eq0
 unfolding append

@@ -1,15 +1,20 @@
 use Rattle.std.proofs.Common.{rules}
 use Rattle.rules.proofs.Tests.{yes_eq, no_eq}
 use Rattle.rules.specs.Work.{append}
-use Rattle.plan.proofs.Laws.{append-view}
+use Rattle.plan.specs.View.{stores_of, number_of, cut_of, source_of, target_of, count_of}
+use Rattle.plan.proofs.Logged.{logged-more}
 use Rattle.plan.proofs.append_word.Goals as goal
 
 pub returns-then-log-eq0 : goal.returns-then-log-eq0
-unfolding append
+unfolding append stores_of
 returns-then-log-eq0 c =
-    let a = c.args in
-    let v = append-view a.i a.v a.log.now (search rules) (search rules) in
-    (λ regs. rw (yes_eq c.if-log-eq0.true) (v.0 regs), v.1)
+    let g = c.args.log.now in (
+      λ regs. rw (
+        yes_eq c.if-log-eq0.true,
+        logged-more g.singles (search rules) (number_of g) (cut_of g) (source_of g) (target_of g) (count_of g) (record { index = c.args.i; value = c.args.v }) (search rules) (search rules),
+      ),
+      search rules,
+    )
 
 pub returns-else-log-eq0 : goal.returns-else-log-eq0
 unfolding append

@@ -1,12 +1,11 @@
 use Rattle.std.proofs.Common.{rules}
-use Rattle.rules.proofs.Tests.{yes, no}
 use Rattle.rules.specs.Work.{attempted}
 use Rattle.plan.proofs.attempted.Goals as goal
 
-pub returns-then-t : goal.returns-then-t
+pub returns-in-None : goal.returns-in-None
 unfolding attempted
-returns-then-t c = (rw (yes c.if-t.true) (c.refuse.ensures.0 _), search rules)
+returns-in-None c = (rw c.in-None.is (c.refuse.ensures.0 _), search rules)
 
-pub returns : goal.returns
+pub returns-in-Some : goal.returns-in-Some
 unfolding attempted
-returns c = (rw (no c.if-t.false) (c.put_core.ensures _), search rules)
+returns-in-Some c = (rw c.in-Some.is (c.put_core.ensures _), search rules)

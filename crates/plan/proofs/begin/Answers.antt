@@ -1,6 +1,7 @@
-use Rattle.std.proofs.Common.{rules}
-use Rattle.plan.proofs.Laws.{clear-view}
+use Rattle.std.proofs.Common.{refl, rules}
+use Rattle.plan.specs.View.{stores_of, logged}
 use Rattle.plan.proofs.begin.Goals as goal
 
 pub returns : goal.returns
-returns c = clear-view c.args.log.now (search rules)
+unfolding stores_of logged
+returns c = (λ regs. refl, (search rules, search rules), refl)

@@ -3,12 +3,12 @@ use Rattle.core_table.proofs.Tables.{either, operate-is}
 use Rattle.step_dispatch.specs.Others.{other_operation}
 use Rattle.step_dispatch.proofs.operate.Goals as goal
 
-pub returns-then-found : goal.returns-then-found
+pub returns-in-Some : goal.returns-in-Some
 unfolding either
-returns-then-found c =
-    (rw (operate-is, ← c.core_of-q.ensures, ← c.register_operation-t.ensures, c.if-found.true) (c.put_core.ensures _), search rules)
+returns-in-Some c =
+    (rw (operate-is, ← c.core_of.ensures, ← c.register_operation.ensures, c.in-Some.is) (c.put_core.ensures _), search rules)
 
-pub returns : goal.returns
+pub returns-in-None : goal.returns-in-None
 unfolding either other_operation
-returns c =
-    (rw (operate-is, ← c.core_of-q.ensures, ← c.register_operation-t.ensures, c.if-found.false) c.other_operation.ensures.0, search rules)
+returns-in-None c =
+    (rw (operate-is, ← c.core_of.ensures, ← c.register_operation.ensures, c.in-None.is) c.other_operation.ensures.0, search rules)

@@ -8,7 +8,7 @@ unfolding steps.choose if_eq
 returns-then-between_instructions c =
     (rw (← c.between_instructions.ensures, c.if-between_instructions.true) c.channels_first.ensures.0, search rules)
 
-pub returns : goal.returns
+pub returns-else-between_instructions : goal.returns-else-between_instructions
 unfolding steps.choose if_eq
-returns c =
+returns-else-between_instructions c =
     (rw (← c.between_instructions.ensures, c.if-between_instructions.false) c.instruction_unless_idle.ensures.0, search rules)

@@ -1,47 +1,42 @@
-use native.Mathlib.Omega.{arith}
-use mathlib.Core.Path.{ap, ◌∙◌}
-use mathlib.Core.List.{List}
-use Prim.Native.Nat.{ℕ}
+use Rattle.std.proofs.Common.{ℕ, List, ◌∙◌, ◌≡◌, Err, ap, arith, refl, rules}
 use Rattle.rules.specs.Journal.{record_of}
 use Rattle.rules.specs.Work.{Work, begin}
 use Rattle.rules.specs.Step as steps
+use Rattle.plan.specs.View.{work_of}
+use Rattle.plan.specs.declared.Plan.{Plan}
 use Rattle.journal.specs.Effect.{committed}
-use Rattle.journal.proofs.Effects.{fits, ended-refused, ended-done}
+use Rattle.journal.proofs.Effects.{ended-refused, ended-done}
 use Rattle.step_engine.proofs.plan_and_commit.Goals as goal
 
-pub commit-committed-requires : goal.commit-committed-requires
-commit-committed-requires c =
-    let a = c.args in
+-- the work of a step, from that of the plan before and after it
+stepped : (mem old : List ℕ) (p q : Plan) (w : Work) → w ≡ begin p.regs → work_of q ≡ steps.step mem w → p.regs ≡ old → work_of q ≡ steps.step mem (begin old)
+stepped mem old p q w b s r = s ∙ ap (steps.step mem) b ∙ ap (λ (x : List ℕ). steps.step mem (begin x)) r
+
+pub commit-requires : goal.commit-requires
+commit-requires c =
     ((omega (arith, c.step.ensures.1, c.begin.ensures.1), omega (arith, c.step.ensures.1, c.begin.ensures.1)), c.requires.1, c.requires.2, c.requires.3)
 
-pub overflow_cast-count : goal.overflow_cast-count
-overflow_cast-count c =
+pub returns-clause-effect : goal.returns-clause-effect
+returns-clause-effect c =
     let a = c.args in
-    omega (arith, fits _ a.used a.mem.now a.journal.now _ _ _ _ _ c.commit-committed.ensures c.if-committed-eq0.true, c.requires.2, c.commit-committed.auto)
+    let e = stepped a.mem.now a.old a.plan.now c.step.new.plan _ (c.begin.ensures.0 a.plan.now.regs) c.step.ensures.0 c.requires.0 in
+    rw c.put_tail.ensures (ended-done a.old a.used a.mem.now a.journal.now _ _ _ _ _ c.in_ok-count.ensures.effect c.in_ok-count.count refl)
+    ∙ ap (λ (w : Work). committed (record_of a.mem.now a.old) a.used a.mem.now a.journal.now w.answer w.kind w.address w.stored) e
 
-pub overflow_mul-count : goal.overflow_mul-count
-overflow_mul-count c =
+pub returns-clause-registers : goal.returns-clause-registers
+returns-clause-registers c =
     let a = c.args in
-    omega (arith, fits _ a.used a.mem.now a.journal.now _ _ _ _ _ c.commit-committed.ensures c.if-committed-eq0.true, c.requires.2, c.commit-committed.auto)
+    ap (λ (w : Work). w.regs) (stepped a.mem.now a.old a.plan.now c.step.new.plan _ (c.begin.ensures.0 a.plan.now.regs) c.step.ensures.0 c.requires.0)
 
-pub overflow_add-used : goal.overflow_add-used
-overflow_add-used c =
+pub returns-in_err-count-clause-effect : goal.returns-in_err-count-clause-effect
+returns-in_err-count-clause-effect c =
     let a = c.args in
-    omega (arith, fits _ a.used a.mem.now a.journal.now _ _ _ _ _ c.commit-committed.ensures c.if-committed-eq0.true, c.requires.2, c.commit-committed.auto)
+    let e = stepped a.mem.now a.old a.plan.now c.step.new.plan _ (c.begin.ensures.0 a.plan.now.regs) c.step.ensures.0 c.requires.0 in
+    let r : c.from_residual.result ≡ Err c.in_err-count.field-0.0 = search rules in
+    rw r (ended-refused a.old a.used a.mem.now a.journal.now _ _ _ _ _ c.in_err-count.ensures.effect c.in_err-count.field-0.0 refl)
+    ∙ ap (λ (w : Work). committed (record_of a.mem.now a.old) a.used a.mem.now a.journal.now w.answer w.kind w.address w.stored) e
 
-pub put_tail-requires : goal.put_tail-requires
-put_tail-requires c =
+pub returns-in_err-count-clause-registers : goal.returns-in_err-count-clause-registers
+returns-in_err-count-clause-registers c =
     let a = c.args in
-    omega (arith, fits _ a.used a.mem.now a.journal.now _ _ _ _ _ c.commit-committed.ensures c.if-committed-eq0.true, c.requires.2, c.commit-committed.auto)
-
-pub returns-then-committed-eq0 : goal.returns-then-committed-eq0
-returns-then-committed-eq0 c =
-    let a = c.args in
-    let e = c.step.ensures.0 ∙ ap (steps.step a.mem.now) (c.begin.ensures.0 a.regs.now) ∙ ap (λ (r : List ℕ). steps.step a.mem.now (begin r)) c.requires.0 in
-    ((rw c.put_tail.ensures (ended-done a.old a.used a.mem.now a.journal.now _ _ _ _ _ c.commit-committed.ensures c.if-committed-eq0.true)) ∙ ap (λ (v : Work). committed (record_of a.mem.now a.old) a.used a.mem.now a.journal.now v.answer v.kind v.address v.stored) e, ap (λ (v : Work). v.regs) e)
-
-pub returns-else-committed-eq0 : goal.returns-else-committed-eq0
-returns-else-committed-eq0 c =
-    let a = c.args in
-    let e = c.step.ensures.0 ∙ ap (steps.step a.mem.now) (c.begin.ensures.0 a.regs.now) ∙ ap (λ (r : List ℕ). steps.step a.mem.now (begin r)) c.requires.0 in
-    (ended-refused a.old a.used a.mem.now a.journal.now _ _ _ _ _ c.commit-committed.ensures c.if-committed-eq0.false ∙ ap (λ (v : Work). committed (record_of a.mem.now a.old) a.used a.mem.now a.journal.now v.answer v.kind v.address v.stored) e, ap (λ (v : Work). v.regs) e)
+    ap (λ (w : Work). w.regs) (stepped a.mem.now a.old a.plan.now c.step.new.plan _ (c.begin.ensures.0 a.plan.now.regs) c.step.ensures.0 c.requires.0)

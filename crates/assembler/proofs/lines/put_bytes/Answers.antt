@@ -1,36 +1,14 @@
-use Rattle.std.proofs.Common.{drop, length-drop, refl, sym, ap, ◌∙◌, arith}
-use Rattle.std.proofs.lemmas.List.Edits.{sets}
-use Rattle.assembler.proofs.Text.{bytes-length, bytes_next, bytes-none}
+use Rattle.std.proofs.Common.{arith}
+use Rattle.assembler.proofs.Rest.{turn_next, turn_end}
 use Rattle.assembler.proofs.lines.put_bytes.Goals as goal
 
-pub loop-k-init : goal.loop-k-init
-loop-k-init c =
-    record {
-      here = c.requires.0;
-      total = omega arith;
-      len = refl;
-      count = omega (arith, bytes-length (drop c.args.start c.args.code.now), length-drop c.args.start c.args.code.now);
-      room = c.requires.1;
-      rest = refl;
-    }
-
-pub loop-k-preserved : goal.loop-k-preserved
-loop-k-preserved c =
-    let inv = c.loop-k.invariant in
-    let n =
-    bytes_next c.args.code.now c.loop-k.k c.loop-k.end _ c.separator.result c.loop-k.text c.loop-k-test.true refl c.separator.ensures in
-    record {
-      here = omega arith;
-      total = omega (arith, inv.total);
-      len = c.put_hex.auto.text ∙ inv.len;
-      count = omega (arith, inv.count, c.loop-k-test.true);
-      room = inv.room;
-      rest = rw c.put_hex.ensures (sym n ∙ inv.rest);
-    }
+pub loop-byte-preserved : goal.loop-byte-preserved
+loop-byte-preserved c =
+    turn_next c.args.chain.now c.args.text.now c.loop-byte.text _ c.args.at c.loop-byte.end c.put_all-end.result c.in-Some.byte.now c.hex_digit-high.result
+    c.hex_digit-low.result c.separator.result c.loop-byte.rest.now c.in-Some.others.now c.loop-byte.invariant (omega (arith, c.well_formed))
+    c.in-Some.ensures.cases.0 c.hex_digit-high.ensures c.hex_digit-low.ensures c.separator.ensures c.put_all-end.ensures
 
 pub returns : goal.returns
 returns c =
-    let inv = c.loop-k.invariant in (
-      omega (arith, inv.count, inv.here, c.loop-k-test.false),
-      ap (sets c.loop-k.text c.loop-k.end) (sym (bytes-none c.args.code.now c.loop-k.k c.loop-k-test.false)) ∙ inv.rest,
-    )
+    turn_end c.args.chain.now c.args.text.now c.loop-byte.text c.args.at c.loop-byte.rest.now c.loop-byte.end c.loop-byte.invariant
+    c.in_default.ensures.cases

@@ -1,19 +1,11 @@
-use mathlib.Core.Path.{◌≡◌}
-use mathlib.Core.List.{List}
-use Prim.Native.Nat.{ℕ, ◌+◌, ◌*◌, ◌≤◌}
-use lib.ListN.{length}
-use mathlib.Core.Bool.{false}
+use Rattle.std.proofs.Common.{◌*◌, ◌+◌, ◌-◌, ◌≡◌, false, length}
 use Rattle.rules.specs.Journal.{pairs_at, write_back, strays}
 use Rattle.journal.proofs.undo.write_back.Given as goal
 
-pub record Turn (mem₀ j : List ℕ) (at n : ℕ) (mem : List ℕ) (w left : ℕ) : Type 0 where
-  pub room : w + 2 * left ≤ length j
-  pub len : length mem ≡ length mem₀
-  pub ok : strays (length mem) (pairs_at j w left) ≡ false
-  pub rest : write_back mem (pairs_at j w left) ≡ write_back mem₀ (pairs_at j at n)
-
-abbrev pub invariant-loop-left : goal.invariant-loop-left
-invariant-loop-left l = Turn l.initial.mem l.journal l.at l.n l.mem l.w l.left
-
-abbrev pub decreases-loop-left : goal.decreases-loop-left
-decreases-loop-left l = l.left
+abbrev pub invariant-loop-k : goal.invariant-loop-k
+invariant-loop-k l =
+    let pairs = pairs_at l.journal (l.at + 2 * l.k) (l.n - l.k) in
+    record {
+      inside : strays (length l.mem) pairs ≡ false;
+      rest : write_back l.mem pairs ≡ write_back l.initial.mem (pairs_at l.journal l.at l.n);
+    }

@@ -8,24 +8,24 @@ use Rattle.links.proofs.link_calls.event.Goals as goal
 pub returns-then-moving : goal.returns-then-moving
 unfolding event
 returns-then-moving c =
-    (rw (moving_yes _ _ (sym (c.moving.ensures c.args.log.now) ∙ c.if-moving.true)) (c.event_meets.ensures _), search rules)
+    (rw (moving_yes _ _ (sym (rw c.event-c.ensures at c.moving.ensures c.args.plan.now.log) ∙ c.if-moving.true)) (c.event_meets.ensures _), search rules)
 
-pub returns-then-regs-eq0 : goal.returns-then-regs-eq0
+pub returns-then-plan-flags-eq0 : goal.returns-then-plan-flags-eq0
 unfolding event
-returns-then-regs-eq0 c = (
+returns-then-plan-flags-eq0 c = (
   rw (
-    moving_no _ _ (sym (c.moving.ensures c.args.log.now) ∙ c.if-moving.false),
-    yes_eq c.if-regs-eq0.true,
+    moving_no _ _ (sym (rw c.event-c.ensures at c.moving.ensures c.args.plan.now.log) ∙ c.if-moving.false),
+    yes_eq (rw (c.flags.ensures.0, c.event-c.ensures) at c.if-plan-flags-eq0.true),
   ) (c.event_holds.ensures _),
   search rules,
 )
 
-pub returns : goal.returns
+pub returns-else-plan-flags-eq0 : goal.returns-else-plan-flags-eq0
 unfolding event
-returns c = (
+returns-else-plan-flags-eq0 c = (
   rw (
-    moving_no _ _ (sym (c.moving.ensures c.args.log.now) ∙ c.if-moving.false),
-    no_eq c.if-regs-eq0.false,
+    moving_no _ _ (sym (rw c.event-c.ensures at c.moving.ensures c.args.plan.now.log) ∙ c.if-moving.false),
+    no_eq (rw (c.flags.ensures.0, c.event-c.ensures) at c.if-plan-flags-eq0.false),
   ) (c.refuse.ensures.0 _),
   search rules,
 )

@@ -2,8 +2,8 @@ use Rattle.std.proofs.Common.{arith, take, sym}
 use Rattle.std.proofs.Math.ListN.{get_or-eq_default}
 use Rattle.rules.specs.Memory.{stores}
 use Rattle.rules.specs.Work.{word_at}
-use Rattle.plan.specs.View.{singles, moves, stores_of, indices_of, values_of, number_of, cut_of, source_of, target_of, count_of}
-use Rattle.memory.proofs.Logged.{through_log}
+use Rattle.plan.specs.View.{singles, moves, stores_of, number_of, cut_of, source_of, target_of, count_of}
+use Rattle.memory.proofs.Logged.{singles-slice, through_log}
 use Rattle.memory.proofs.Stored.{stores-length}
 use Rattle.memory.proofs.loads.word_at.Goals as goal
 
@@ -20,7 +20,7 @@ returns c =
     let a = c.args in
     let g = a.log.now in
     let m = a.mem.now in
-    let pre = take (cut_of g) (singles (indices_of g) (values_of g)) in
+    let pre = take (cut_of g) (singles g.singles) in
     let mid = moves (source_of g) (target_of g) (count_of g) in
-    λ rs. rw (← c.index_of-i.ensures, through_log m (indices_of g) (values_of g) (number_of g) (cut_of g) (source_of g) (target_of g) (count_of g))
-    (c.latest.ensures (stores (stores m pre) mid) (omega (arith, stores-length mid (stores m pre), stores-length pre m)) (sym c.word_between.ensures))
+    λ rs. rw (← c.index_of-i.ensures, through_log m g.singles (number_of g) (cut_of g) (source_of g) (target_of g) (count_of g))
+    (rw (singles-slice (cut_of g) (number_of g) g.singles c.requires.0) at c.latest.ensures (stores (stores m pre) mid) (omega (arith, stores-length mid (stores m pre), stores-length pre m)) (sym c.word_between.ensures))

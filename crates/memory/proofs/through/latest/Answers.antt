@@ -1,25 +1,28 @@
-use Rattle.std.proofs.Common.{arith, ◌≡◌, ◌<◌, List, ℕ, get_or, sym, ap, ◌∙◌}
-use Rattle.memory.proofs.Held.{held_here, held_past, held_none}
+use Rattle.std.proofs.Common.{◌≡◌, List, get_or, take, sym, ap, ◌∙◌, take_all}
+use Rattle.rules.specs.Memory.{stores}
+use Rattle.plan.specs.declared.Single.{Single}
+use Rattle.plan.specs.View.{singles}
+use Rattle.memory.proofs.Logged.{through_here, through_past}
 use Rattle.memory.proofs.through.latest.Goals as goal
+use Rattle.memory.proofs.through.latest.Goals.{then-single-i, else-single-i}
 
-pub returns-then-log-k : goal.returns-then-log-k
-returns-then-log-k c =
-    λ m b e.
-    let a = c.args in
-    let L = c.loop-k in
-    let lt : a.f < L.k = c.loop-k-test.true in
-    sym (L.invariant.2 m ∙ held_here a.log.now c.whole_log.ensures m a.i a.f L.k (omega arith) (omega arith) b c.if-log-k.true)
+pub loop-single-init : goal.loop-single-init
+unfolding stores
+loop-single-init c = λ m l e. sym e
 
-pub loop-k-preserved : goal.loop-k-preserved
-loop-k-preserved c =
+pub loop-single-preserved : goal.loop-single-preserved
+loop-single-preserved c =
+    λ m l e.
     let a = c.args in
-    let L = c.loop-k in
-    (omega arith, omega arith, λ m. L.invariant.2 m ∙ held_past a.log.now c.whole_log.ensures m a.i a.f L.k (omega arith) (omega arith) c.if-log-k.false)
+    let k = c.loop-single.single-index in
+    elim c.if-single-i.branch [
+      | then-single-i w ↦ w.word-is ∙ sym (through_here a.singles.now m a.i k c.loop-single-test.true l w.if-single-i.true)
+      | else-single-i w ↦ w.word-is ∙ c.loop-single.invariant m l e ∙ sym (through_past a.singles.now m a.i k c.loop-single-test.true w.if-single-i.false)
+    ]
 
 pub returns : goal.returns
 returns c =
-    λ m b e.
-    let a = c.args in
-    let L = c.loop-k in
-    let z : a.f ≡ L.k = omega arith in
-    sym (L.invariant.2 m ∙ ap (λ (s : List ℕ). get_or s a.i 0) (held_none a.log.now c.whole_log.ensures m a.f L.k z) ∙ e)
+    λ m l e.
+    let xs = c.args.singles.now in
+    let all : take c.loop-single.single-index xs ≡ xs = take_all c.loop-single.single-index xs c.loop-single-test.false in
+    c.loop-single.invariant m l e ∙ ap (λ (ys : List Single). get_or (stores m (singles ys)) c.args.i 0) all

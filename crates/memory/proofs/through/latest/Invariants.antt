@@ -1,14 +1,9 @@
-use Rattle.std.proofs.Common.{◌≡◌, List, ℕ, ◌≤◌, get_or}
-use Rattle.std.proofs.Math.Seq.{slice}
+use Rattle.std.proofs.Common.{◌≡◌, List, ℕ, ◌<◌, length, get_or, take}
 use Rattle.rules.specs.Memory.{stores}
-use Rattle.plan.specs.View.{singles, indices_of, values_of}
+use Rattle.plan.specs.View.{singles}
 use Rattle.memory.proofs.through.latest.Given as goal
 
-abbrev pub invariant-loop-k : goal.invariant-loop-k
-invariant-loop-k l =
-    (l.f ≤ l.k) × (l.k ≤ 16) ×
-    ((m : List ℕ) → get_or (stores m (slice l.f l.t (singles (indices_of l.log) (values_of l.log)))) l.i 0
-    ≡ get_or (stores m (slice l.f l.k (singles (indices_of l.log) (values_of l.log)))) l.i 0)
-
-abbrev pub decreases-loop-k : goal.decreases-loop-k
-decreases-loop-k l = l.k
+abbrev pub invariant-loop-single : goal.invariant-loop-single
+invariant-loop-single l =
+    (m : List ℕ) → l.i < length m → get_or m l.i 0 ≡ l.v
+    → l.word ≡ get_or (stores m (singles (take l.single-index l.singles))) l.i 0

@@ -6,6 +6,3 @@ use Rattle.step_pending.proofs.pending.no_request.Given as goal
 
 abbrev pub invariant-loop-c : goal.invariant-loop-c
 invariant-loop-c l = (l.c ≤ 9) × (pending.no_request 0 9 l.regs ≡ quiet l.regs l.flags l.c (9 - l.c))
-
-abbrev pub decreases-loop-c : goal.decreases-loop-c
-decreases-loop-c l = 9 - l.c

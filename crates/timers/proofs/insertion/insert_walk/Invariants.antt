@@ -1,10 +1,8 @@
-use Rattle.rules.specs.Timers.{insert_walk}
 use mathlib.Core.Path.{◌≡◌}
-use Rattle.plan.specs.View.{view, Grown}
+use Prim.Native.Nat.{◌-◌}
+use Rattle.rules.specs.Timers.{insert_walk}
+use Rattle.plan.specs.View.{work_of, Grown}
 use Rattle.timers.proofs.insertion.insert_walk.Given as goal
 
-abbrev pub invariant-loop-left : goal.invariant-loop-left
-invariant-loop-left l = (insert_walk l.mem l.turns l.time l.previous (view l.initial.regs l.initial.log) ≡ insert_walk l.mem l.left l.time l.place (view l.regs l.log)) × Grown 0 l.initial.log l.log
-
-abbrev pub decreases-loop-left : goal.decreases-loop-left
-decreases-loop-left l = l.left
+abbrev pub invariant-loop : goal.invariant-loop
+invariant-loop l = (insert_walk l.mem l.turns l.time l.previous (work_of l.initial.plan) ≡ insert_walk l.mem (l.turns - l.counter) l.time l.place (work_of l.plan)) × Grown 0 l.initial.plan.log l.plan.log

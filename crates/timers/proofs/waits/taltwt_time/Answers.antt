@@ -6,20 +6,19 @@ pub returns-then-later : goal.returns-then-later
 unfolding taltwt_time
 returns-then-later c = (
   rw (
-    ← c.level-clock.ensures.0,
+    ← c.clock.ensures c.args.plan.now.log,
     ← c.later.ensures,
     c.if-later.true,
     ← c.w_index_word.ensures.0,
-  )
-      c.time_now.ensures.0,
+  ) c.time_now.ensures.0,
   search rules,
 )
 
-pub returns : goal.returns
+pub returns-else-later : goal.returns-else-later
 unfolding taltwt_time
-returns c = (
+returns-else-later c = (
   rw (
-    ← c.level-clock.ensures.0,
+    ← c.clock.ensures c.args.plan.now.log,
     ← c.later.ensures,
     c.if-later.false,
     ← c.next_time.ensures,

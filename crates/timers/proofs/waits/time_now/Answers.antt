@@ -4,4 +4,4 @@ use Rattle.timers.proofs.waits.time_now.Goals as goal
 
 pub returns : goal.returns
 unfolding time_now
-returns c = (rw (← c.level-clock.ensures.0) (c.w_index_word.ensures.0 _), search rules)
+returns c = (rw (← c.clock.ensures c.args.plan.now.log) (c.w_index_word.ensures.0 _), search rules, search rules)

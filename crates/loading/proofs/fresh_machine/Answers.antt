@@ -1,4 +1,0 @@
-use Rattle.loading.proofs.fresh_machine.Goals as goal
-
-pub returns : goal.returns
-returns c = rw c.fresh_regs-regs.ensures

@@ -1,7 +1,0 @@
-use Rattle.std.proofs.Common.{rules}
-use Rattle.rules.specs.Scheduling.{count_up}
-use Rattle.processes.proofs.loops.count_up.Goals as goal
-
-pub returns : goal.returns
-unfolding count_up
-returns c = (rw (← c.r_index_word.ensures.0) (c.add_to_c.ensures _), search rules)
