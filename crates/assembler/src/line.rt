@@ -9,6 +9,7 @@ use std::marker::Model;
 // The longest line of a chain: a name of 11 characters, a space, a minus sign, ten digits and a newline.
 const LONGEST: usize = 24;
 
+// Kept, point 6: a buffer with its length, since there is no heap; the two are one type, which ties them (a).
 #[derive(Drop)]
 pub(crate) struct Line {
     bytes: [u8; LONGEST],

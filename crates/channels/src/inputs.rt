@@ -50,6 +50,7 @@ fn soft_input(plan: &mut Plan, mem: &[u32], descriptor: u32)
 }
 
 // Input (000 1.10), which is also input message (000 1.11).
+// Kept, point 2: output goes to other procedures; each follows its own definition, cut at each IF (d).
 #[tactic(auto, using(plan::proofs::Decided::tests), unfolding(rules::specs::Channels::input))]
 pub fn input(plan: &mut Plan, mem: &[u32])
     requires { Room 8 plan.old.log × (count_of plan.old.log ≡ 0) }

@@ -24,6 +24,7 @@ fn run_content(plan: &mut Plan, mem: &[u32], hc: Channel, content: u32)
 }
 
 // Serves a run request: loads the channel word and runs its process.
+// Kept, point 2: handle_ready_request clears another bit and goes on in another way; each follows its own definition (d).
 #[tactic(auto, unfolding(rules::specs::Channels::handle_run_request))]
 fn handle_run_request(plan: &mut Plan, mem: &[u32], hc: Channel)
     requires { Room 8 plan.old.log }

@@ -34,6 +34,7 @@ pub fn soft_wait(plan: &mut Plan, mem: &[u32])
 }
 
 // Moves the message, then runs the partner (000 1.10, BlockMoveFinalStep).
+// Kept, point 2: moves as block_move of data does, then runs the partner; what they share is transfer and move_done (d).
 #[tactic(auto, unfolding(rules::specs::Channels::move_message))]
 pub fn move_message(plan: &mut Plan, mem: &[u32], descriptor: u32)
     requires { Room 7 plan.old.log × (count_of plan.old.log ≡ 0) }

@@ -73,7 +73,7 @@ pub fn norm(s: Core) -> Core
         return Core { c: 64, ..s };
     }
     let mut n: u32 = 0;
-    // Kept, point 3: n counts the turns of a loop that ends at a value of v; there is no range or slice that a for could go over.
+    // Kept, point 3: leading zeros in place of this loop are document 02's No. 5, which lands by itself with this contract as it is (a).
     while v < 0x8000_0000_0000_0000 {
         v = v * 2;
         n += 1;

@@ -58,5 +58,5 @@ pub fn ldiff(s: Core) -> Core
     ensures { result ≡ stack.ldiff s }
 {
     let z = i64::from(s.b) - i64::from(s.a) - i64::from(carry_in(s));
-    split(word_of(z), u32::from(z < 0), s)
+    split(word_of(i128::from(z)), u32::from(z < 0), s)
 }

@@ -14,7 +14,7 @@ pub fn xword(s: Core) -> Core
     if signed(s.b) < i64::from(s.a) {
         result(s.b, s)
     } else {
-        result(word_of(signed(s.b) - 2 * i64::from(s.a)), s)
+        result(word_of(i128::from(signed(s.b) - 2 * i64::from(s.a))), s)
     }
 }
 

@@ -20,7 +20,7 @@ pub fn signed(x: u32) -> i64
 
 // RestoreToRange: returns the word of a whole number.
 #[tactic(auto, unfolding(rules::specs::Words::restore_to_range))]
-pub fn word_of(z: i64) -> u32
+pub fn word_of(z: i128) -> u32
     ensures { result ≡ restore_to_range z }
 {
     (z.cast_unsigned() % 0x1_0000_0000) as u32
@@ -31,7 +31,10 @@ pub fn word_of(z: i64) -> u32
 pub fn overflow_check(z: i64, s: Core) -> Core
     ensures { result ≡ core.overflow_check z s }
 {
-    error_if(z < -0x8000_0000 || z > 0x7FFF_FFFF, with_a(word_of(z), s))
+    error_if(
+        z < -0x8000_0000 || z > 0x7FFF_FFFF,
+        with_a(word_of(i128::from(z)), s),
+    )
 }
 
 // Assigns A := z; OverflowCheck (A); B := C.
@@ -47,7 +50,7 @@ pub fn quotient(b: u32, a: u32) -> u32
     requires { 0 < a }
     ensures { result ≡ restore_to_range (int_div (sign b) (sign a)) }
 {
-    word_of(signed(b) / signed(a))
+    word_of(i128::from(signed(b) / signed(a)))
 }
 
 // Returns the remainder of signed words, with the sign of b.
@@ -56,5 +59,5 @@ pub fn remainder(b: u32, a: u32) -> u32
     requires { 0 < a }
     ensures { result ≡ restore_to_range (int_rem (sign b) (sign a)) }
 {
-    word_of(signed(b) % signed(a))
+    word_of(i128::from(signed(b) % signed(a)))
 }

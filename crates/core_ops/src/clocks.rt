@@ -7,6 +7,7 @@ use crate::stack::{pop, push};
 use rules::names::*;
 use rules::{Both, Core, System};
 
+// Kept, point 1: a test of bit 0 of a descriptor, as 000 makes it; a Level would be made and matched for the one test (d).
 #[tactic(auto, unfolding(rules::specs::Stack::ldtimer, rules::specs::Tests::if_eq))]
 pub fn ldtimer(s: Core, y: System) -> Core
     ensures { result ≡ stack.ldtimer s y }

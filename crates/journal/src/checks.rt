@@ -58,7 +58,7 @@ pub fn first_bad(
 
 // Returns the answer of an access outside memory: 10a, 10b or 10c by its kind, with the address.
 // Kept, point 1: the kind comes out of the log of a plan, where it is a number (plan::Refusal).
-// Kept, point 4: a kind becomes a case of Answer that has the address too; no From takes both (d).
+// Kept, point 4: a kind becomes a case of Answer that has the address too; neither is a type of this crate, so no From (a).
 #[tactic(auto, unfolding(rules::specs::Tests::if_eq))]
 fn outside_of(kind: u32, address: u32) -> Answer
     ensures { result ≡ outside_answer kind address }
@@ -70,7 +70,7 @@ fn outside_of(kind: u32, address: u32) -> Answer
     }
 }
 
-// Kept, point 4: no From, since numbers that are none of 01's have no answer, and the one caller knows that its number has (d).
+// Kept, point 4: no From: neither the refusal of a plan nor Answer is a type of this crate (a).
 // Returns the answer with 01's number; of 10 that of its kind, with the address.
 #[tactic(auto, unfolding(laws::specs::Answers::answer_of, rules::specs::Tests::if_lt, rules::specs::Tests::if_eq))]
 fn answer_of(refusal: Refusal) -> Answer

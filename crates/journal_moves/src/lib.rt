@@ -22,6 +22,7 @@ fn move_bytes(mem: &mut [u32], src: usize, dst: usize, n: usize)
 }
 
 // Joins the upper 4 - k bytes of x and the lower k bytes of y to a word.
+// Kept, point 4: a word out of two words and a shift; by bytes it would be taken apart and joined again (d).
 fn straddle(k: usize, x: u32, y: u32) -> u32
     requires { (0 < k) × (k < 4) }
     ensures { result ≡ x / 2 ^ (8 * k) + y % 2 ^ (8 * k) * 2 ^ (32 - 8 * k) }

@@ -30,6 +30,7 @@ const MOST_PAIRS: usize = 4;
 const FRAME_LIMIT: u32 = 0xFFFF_FFFD;
 
 // Sets registers 0 to 6 to the values of s.
+// Kept, point 2: as plan::put_core, on registers by value; a common step has no plan (d).
 fn with_core(regs: [u32; REGISTERS], s: Core) -> [u32; REGISTERS]
     ensures { result ≡ with_core s regs }
 {
@@ -56,6 +57,7 @@ fn put_pair(journal: &mut [u32], mem: &[u32], i: u32, at: usize)
 }
 
 // Writes the pairs of the n words from word i on.
+// Kept, point 2: as put_range_pairs of journal_record, which takes the span of an outline; a common step has none (d).
 fn put_pairs(journal: &mut [u32], mem: &[u32], n: usize, i: u32, at: usize)
     requires { (i + n ≤ length mem.now) × (i + n ≤ 2 ^ 32) × (at + 2 * n ≤ length journal.old) }
     ensures { journal.new ≡ sets journal.old at (olds mem.now (range i n)) }

@@ -28,6 +28,7 @@ pub struct Single {
 }
 
 // The block move: count bytes from source to target, both in bytes from the start of memory. A count of 0 moves nothing.
+// Kept, point 1: 01 lets a move of 0 bytes move nothing, and a log may come with any block, so no Option (a).
 #[derive(Clone, Copy, Debug, PartialEq, Eq)]
 pub struct BlockMove {
     pub source: u32,
@@ -45,6 +46,7 @@ pub struct Refusal {
 }
 
 // The log of a plan: the first number of singles are its single stores, in program order; the first cut of them come before the block move.
+// Kept, point 6: a fixed array with its number beside it, since there is no heap; no bound ties the two, so that any log may be lent (a).
 #[derive(Drop)]
 pub struct Log {
     pub singles: [Single; SINGLES],
@@ -55,6 +57,7 @@ pub struct Log {
 }
 
 // The plan of a call: the registers as they are to be, and the log.
+// Kept, point 5: memory is lent beside it, since in it each contract would need a clause that it is the same memory afterwards (d).
 #[derive(Drop)]
 pub struct Plan {
     pub regs: [u32; REGISTERS],
@@ -121,7 +124,7 @@ pub fn goto_snp(regs: &mut [u32; REGISTERS])
 }
 
 // Reads registers 0 to 6, on which most operations work.
-// Kept, point 4: names each register by its number, as its definition does; a From would do the same without a name (d).
+// Kept, point 4: this, put_core, system_of and put_system name each register by its number, as their definitions do; no From names them (d).
 pub fn core_of(regs: &[u32; REGISTERS]) -> Core
     ensures { result ≡ registers.core_of regs.now }
 {

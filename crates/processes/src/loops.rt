@@ -16,7 +16,7 @@ use words::positive;
 fn back_by(base: u32, n: u32) -> u32
     ensures { result ≡ at_byte base (range - n) }
 {
-    std::num::wrapping_sub_u32(base, n)
+    base.wrapping_sub(n)
 }
 
 // Stores the index and moves Iptr back by A bytes.

@@ -8,6 +8,7 @@ use rules::Reply;
 use std::io::Read;
 
 // The input: the bytes at..end of the buffer are read, and not answered yet.
+// Kept, point 6: a buffer with its length, since there is no heap; the two are one type, which ties them (a).
 #[derive(Drop)]
 pub struct Input<'a> {
     pub buffer: &'a mut [u8],
@@ -40,7 +41,7 @@ impl<'a> Input<'a> {
     // Leaves the first size bytes behind, which are answered.
     pub fn answered(&mut self, size: usize)
         requires { self.old.at + size ≤ self.old.end }
-        ensures { (self.new.at ≡ self.old.at + size) × (self.new.end ≡ self.old.end) }
+        ensures { (self.new.at ≡ self.old.at + size) × (self.new.end ≡ self.old.end) × (self.new.buffer.now ≡ self.old.buffer.now) }
     {
         self.at += size;
     }
@@ -62,6 +63,7 @@ impl<'a> Input<'a> {
 }
 
 // Reads once, at most as many bytes as buf has; returns their number, 0 where the input ended or cannot be read.
+// Kept, point 1: std's read says 0 at the end of the input; an error ends the input too, as it did (a).
 pub(crate) fn read_some(rt: &HostRuntime, buf: &mut [u8]) -> usize
     ensures { result ≤ length buf.new }
 {
@@ -69,6 +71,7 @@ pub(crate) fn read_some(rt: &HostRuntime, buf: &mut [u8]) -> usize
 }
 
 // The output: the first used bytes of the buffer are not written yet; count cases are answered.
+// Kept, point 6: a buffer with its length, since there is no heap; the two are one type, which ties them (a).
 #[derive(Drop)]
 pub struct Output<'a> {
     pub buffer: &'a mut [u8],

@@ -1,5 +1,5 @@
 // The constants of the definitions in rules/specs (Registers, Core, Scheduling, Work, Stack).
-// A definition with a level or a channel as argument is a base here: FPTR_REG + 2 * level, CHANNEL_REG + 3 * c.
+// A definition with a channel as argument is a base here, CHANNEL_REG + 3 * c; one with a level is two constants.
 
 // ---- registers by number (01, Memory and registers)
 pub const IPTR_REG: usize = 0;
@@ -16,11 +16,7 @@ pub const OREG: usize = 5;
 
 pub const STATUS_REG: usize = 6;
 
-// FptrReg[level] and BptrReg[level] stand at 2 * level from the first two; level 0 is high.
-pub const FPTR_REG: usize = 7;
-
-pub const BPTR_REG: usize = 8;
-
+// FptrReg[level] and BptrReg[level] of both levels; level 0 is high.
 pub const FPTR_REG_HIGH: usize = 7;
 
 pub const BPTR_REG_HIGH: usize = 8;
@@ -29,14 +25,10 @@ pub const FPTR_REG_LOW: usize = 9;
 
 pub const BPTR_REG_LOW: usize = 10;
 
-// ClockReg[level] and TNextReg[level] stand at level from these.
-pub const CLOCK_REG: usize = 11;
-
+// ClockReg[level] and TNextReg[level] of both levels.
 pub const CLOCK_REG_HIGH: usize = 11;
 
 pub const CLOCK_REG_LOW: usize = 12;
-
-pub const TNEXT_REG: usize = 13;
 
 pub const TNEXT_REG_HIGH: usize = 13;
 
@@ -54,15 +46,6 @@ pub const POINTER_REG: usize = 18;
 pub const COUNT_REG: usize = 19;
 
 pub const CHANNEL_REG: usize = 20;
-
-// The event channel is channel 8; its three words.
-pub const EVENT_CHANNEL: usize = 8;
-
-pub const EVENT_POINTER_REG: usize = 42;
-
-pub const EVENT_COUNT_REG: usize = 43;
-
-pub const EVENT_CHANNEL_REG: usize = 44;
 
 // The hard channels are 0 to 8.
 pub const LINK_CHANS: u32 = 9;

@@ -25,6 +25,7 @@ fn link_behind(plan: &mut Plan, mem: &[u32], process: u32, fptr: usize, bptr: us
 }
 
 // Enqueue (000 1.10): adds the process at the back of a queue.
+// Kept, point 5: front and back are two registers by number; docs/INDEX.md names this function, and it holds for any two (a).
 #[tactic(auto, unfolding(rules::specs::Scheduling::enqueue, rules::specs::Work::put))]
 pub fn enqueue(plan: &mut Plan, mem: &[u32], process: u32, fptr: usize, bptr: usize)
     requires { (fptr < registers.registers) × (bptr < registers.registers) × Room 1 plan.old.log }

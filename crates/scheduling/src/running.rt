@@ -44,6 +44,7 @@ fn run_low(plan: &mut Plan, mem: &[u32], descriptor: u32)
 }
 
 // Runs a process while the machine is at low priority: a high process interrupts.
+// Kept, point 1: a test of bit 0 of a descriptor, as 000 makes it; a Level would be made and matched for the one test (d).
 #[tactic(auto, using(plan::proofs::Decided::tests), unfolding(rules::specs::Scheduling::run_over_low))]
 fn run_over_low(plan: &mut Plan, mem: &[u32], descriptor: u32)
     requires { Room 7 plan.old.log }
@@ -57,6 +58,7 @@ fn run_over_low(plan: &mut Plan, mem: &[u32], descriptor: u32)
 }
 
 // Run (000 1.10): enqueues the process while the machine is at high priority, else starts or enqueues the process by its own priority.
+// Kept, point 1: a test of bit 0 of a descriptor, as 000 makes it; a Level would be made and matched for the one test (d).
 #[tactic(auto, using(plan::proofs::Decided::tests), unfolding(rules::specs::Scheduling::run))]
 pub fn run(plan: &mut Plan, mem: &[u32], descriptor: u32)
     requires { Room 7 plan.old.log }

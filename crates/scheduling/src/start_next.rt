@@ -22,6 +22,7 @@ fn start_queued(plan: &mut Plan, mem: &[u32], level: Level)
 }
 
 // Starts the front of the low queue, else sets idle.
+// Kept, point 2: next_low tests and goes on in another way; each follows its own definition, cut at each IF (d).
 #[tactic(auto, using(plan::proofs::Decided::tests), unfolding(rules::specs::Scheduling::start_low))]
 fn start_low(plan: &mut Plan, mem: &[u32])
     requires { Room 0 plan.old.log }
@@ -74,6 +75,7 @@ fn next_low(plan: &mut Plan, mem: &[u32])
 }
 
 // Starts the next process by the priority of the machine.
+// Kept, point 1: a test of bit 0 of a descriptor, as 000 makes it; a Level would be made and matched for the one test (d).
 #[tactic(auto, using(plan::proofs::Decided::tests), unfolding(rules::specs::Scheduling::next_process))]
 fn next_process(plan: &mut Plan, mem: &[u32])
     requires { Room 0 plan.old.log }

@@ -45,6 +45,7 @@ fn finish_if_same_status(status: u32, t: Core) -> Option<FastStep>
     None
 }
 
+// Kept, point 2: ldnl reads at A and keeps the stack; the address and the registers after it are all that either says (d).
 #[tactic(auto, unfolding(crate::specs::Fast::ldl, rules::specs::Tests::if_lt))]
 fn ldl(mem: &[u32], s: Core) -> Option<FastStep>
     ensures { result ≡ fast.ldl mem.now s }
@@ -69,6 +70,7 @@ fn ldnl(mem: &[u32], s: Core) -> Option<FastStep>
     None
 }
 
+// Kept, point 2: stnl stores B at A; the address, the value and the registers after it are all that either says (d).
 #[tactic(auto, unfolding(crate::specs::Fast::stl, rules::specs::Tests::if_lt))]
 fn stl(mem: &[u32], s: Core) -> Option<FastStep>
     ensures { result ≡ fast.stl mem.now s }

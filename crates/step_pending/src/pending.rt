@@ -22,6 +22,7 @@ fn no_request(regs: [u32; REGISTERS]) -> bool
 }
 
 // Tests whether a timer is enabled and its time has come.
+// Kept, point 2: as timers::timer_due, on registers by value, which the common step has; a reference would be made for it alone (d).
 #[tactic(auto, using(plan::proofs::Decided::tests), unfolding(crate::specs::NothingPending::due))]
 fn due(regs: [u32; REGISTERS], timer: Level) -> bool
     ensures { result ≡ pending.due (number timer) regs }

@@ -30,8 +30,9 @@ pub fn fresh(mem: &mut [u32], journal: &mut [u32], code: &[u8]) -> Reply
 }
 
 // Makes one step. Nearly every step is a common one, which needs no plan (step_fast); step_engine makes the others, and those for whose record
-// the journal may have no room. step_engine is lent a copy of the registers and answers a few numbers, since a machine or a reply that is handed on
-// would be copied.
+// the journal may have no room. step_engine is lent a plan and answers how many pairs it wrote, or the refusal, since a machine or a reply that is
+// handed on would be copied.
+// Kept, point 2: the six calls open with one check and four with one plan; a function over them would take the work, and hide what a call does (d).
 pub fn step(m: Machine, mem: &mut [u32], journal: &mut [u32]) -> Reply
     ensures { StepContract m mem.old journal.old result mem.new journal.new }
 {

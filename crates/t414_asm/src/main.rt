@@ -14,18 +14,12 @@ use line::assemble_line;
 use lines::Lines;
 use names::Names;
 use program_io::input::read_full;
+use program_io::room::zeros;
 
 // The most bytes of text, and one more, which tells that there is too much. No line makes more code than it has text.
 const MOST: usize = 1048576;
 
 const INPUT: usize = MOST + 1;
-
-// Makes a buffer. The contract gives its length alone, so that no proof of a caller computes with so many zeros.
-fn zeros<const SIZE: usize>() -> [u8; SIZE]
-    ensures { SIZE ≡ length result }
-{
-    [0; SIZE]
-}
 
 // Assembles the lines of a text one after the other, up to the first bad one; returns how many bytes of code there are.
 fn assemble_text(text: &[u8], names: &Names, out: &mut [u8]) -> Result<usize, Failure>
@@ -49,12 +43,12 @@ fn run(rt: &HostRuntime, text: &[u8], out: &mut [u8]) -> Result<(), Failure> {
 
 // Reads the text, at most MOST bytes of it.
 fn assemble_input(rt: &HostRuntime) -> Result<(), Failure> {
-    let mut text = zeros::<INPUT>();
+    let mut text = zeros::<u8, INPUT>();
     let got = read_full(rt, &mut text);
     if got > MOST {
         return Err(Failure::TextTooLong);
     }
-    let mut out = zeros::<MOST>();
+    let mut out = zeros::<u8, MOST>();
     run(rt, &text[..got], &mut out)
 }
 

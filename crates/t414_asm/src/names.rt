@@ -21,6 +21,7 @@ const UNNAMED: u32 = 0xFFFF_FFFF;
 const LETTERS: usize = 12;
 
 // A name, the first size letters, and what it stands for.
+// Kept, point 6: a buffer with its length, since there is no heap; the two are one type, which ties them (a).
 #[derive(Clone, Copy)]
 struct Entry {
     letters: [u8; LETTERS],
@@ -56,7 +57,7 @@ const HASHED: usize = 512;
 const SLOTS: usize = HASHED + 144;
 
 // The names, each in the slot of its hash, or in the first free one behind it.
-// Kept, point 6: (b) to look a name up by its position in a list of all writes 20.7 MB of code a second, by its slot 47; the goal is 50.
+// Kept, point 6: (b) to look a name up by its position in a list of all writes 20.7 MB of code a second, by its slot 47, as before; the goal is 50.
 #[derive(Drop)]
 pub(crate) struct Names {
     slots: [Option<Entry>; SLOTS],

@@ -60,7 +60,7 @@ fn repeated<F: Fn(Machine, &mut [u32], &mut [u32]) -> Reply>(
 
 // Steps n times after the reply r. This is the only place that calls step, so that the compiler can inline the whole step into the loop. The call
 // stands in a closure, since the name alone would cost a tick 20 instructions.
-// Kept, point 2: ticks and undos repeat another call; each is one line over repeated, and the one place that makes its call (d).
+// Kept, point 2: ticks repeats another call; each is one line over repeated, and the one place that makes its call (d).
 fn steps(n: u32, r: Reply, mem: &mut [u32], journal: &mut [u32]) -> Reply {
     repeated(
         n,
@@ -82,18 +82,21 @@ fn ticks(n: u32, r: Reply, mem: &mut [u32], journal: &mut [u32]) -> Reply {
     )
 }
 
-// Undoes n times after the reply r.
+// Undoes n times after the reply r, or until an undo is refused.
+// Kept, point 2: over repeated an undo takes some 30 instructions more, and more than the second emulator's on two lines (b).
 fn undos(n: u32, r: Reply, mem: &mut [u32], journal: &mut [u32]) -> Reply {
-    repeated(
-        n,
-        r,
-        mem,
-        journal,
-        |m, mem, journal| t414::undo(m, mem, journal),
-    )
+    let mut reply = r;
+    for _ in 0..n {
+        if !matches!(reply.answer, Answer::Done) {
+            return reply;
+        }
+        reply = t414::undo(reply.machine, mem, journal);
+    }
+    reply
 }
 
 // Clears the journal, then makes the steps, ticks and undos of a round.
+// Kept, point 5: memory and journal are lent apart through this program, as the public calls take them (a).
 fn round(c: Counts, m: Machine, mem: &mut [u32], journal: &mut [u32]) -> Reply {
     let cleared = t414::clear(m, mem, journal);
     let stepped = steps(c.steps, cleared, mem, journal);

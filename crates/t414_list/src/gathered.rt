@@ -15,6 +15,7 @@ fn list(code: &[u8], out: &mut [u8]) -> Result<usize, Refusal>
 }
 
 // A buffer whose first used bytes are text that is not written yet.
+// Kept, point 6: a buffer with its length, since there is no heap; the two are one type, which ties them (a).
 #[derive(Drop)]
 pub(crate) struct Gathered<'a> {
     buffer: &'a mut [u8],

@@ -13,6 +13,7 @@ use rules::names::*;
 use words::at_word;
 
 // Sets the next time to that of the front process, if the queue is not empty (000 1.10, DeleteFinalStep).
+// Kept, point 2: as timer_next of a request, but for where queue and process come from; each follows its own definition (d).
 #[tactic(auto, using(plan::proofs::Decided::tests), unfolding(rules::specs::Timers::delete_next))]
 fn delete_next(plan: &mut Plan, mem: &[u32])
     requires { Room 0 plan.old.log }

@@ -29,6 +29,7 @@ fn timer_due(regs: &[u32; REGISTERS], queue: Level) -> bool
 }
 
 // Tests whether a timer is ready; the low timer only while the machine is at low priority (DECISIONS 16).
+// Kept, point 1: a test of bit 0 of a descriptor, as 000 makes it; a Level would be made and matched for the one test (d).
 #[tactic(auto, using(plan::proofs::Decided::tests), unfolding(rules::specs::Timers::timer_ready))]
 pub fn timer_ready(regs: &[u32; REGISTERS], queue: Level) -> bool
     ensures { (log : Log) → result ≡ timers.timer_ready (number queue) (view regs.now log) }

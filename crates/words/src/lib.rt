@@ -66,6 +66,7 @@ pub fn later(t1: u32, t2: u32) -> bool
 }
 
 // Extracts byte j of a word; byte 0 is the least significant.
+// Kept, point 4: a byte by its number, as its definition picks it; to_le_bytes would be indexed by the same number (d).
 pub fn byte_of(j: u32, w: u32) -> u32
     requires { j < 4 }
     ensures { (result ≡ words.byte_of j w) × (result < 256) }
@@ -145,11 +146,4 @@ pub fn priority_of(wdesc: u32) -> u32
     ensures { (result ≡ core.priority_of wdesc) × (result < 2) }
 {
     wdesc & 1
-}
-
-// Extracts the priority as an index.
-pub fn level(wdesc: u32) -> usize
-    ensures { (result ≡ core.priority_of wdesc) × (result < 2) }
-{
-    priority_of(wdesc) as usize
 }
