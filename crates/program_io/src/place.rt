@@ -104,18 +104,22 @@ impl<'a> Output<'a> {
 
     // Writes the responses on standard output.
     fn flush(&mut self, rt: &HostRuntime) -> Result<(), Fault>
-        ensures { (self.new.used ≡ 0) × (length self.new.buffer.now ≡ length self.old.buffer.now) }
+        ensures { (self.new.used ≡ 0) × (self.new.buffer.now ≡ self.old.buffer.now) }
     {
-        let used = self.used;
+        let written = rt.write_all(self.unwritten());
         self.used = 0;
-        rt.write_all(&self.buffer[..used])
-            .map_err(|_| Fault::Unwritten)
+        written.map_err(|_| Fault::Unwritten)
+    }
+
+    // Returns the responses that are not written yet.
+    fn unwritten(&self) -> &[u8] {
+        &self.buffer[..self.used]
     }
 
     // Writes the responses where the longest one would not fit behind them.
     pub fn make_room(&mut self, rt: &HostRuntime) -> Result<(), Fault>
         requires { most_response ≤ length self.old.buffer.now }
-        ensures { self.new.used + most_response ≤ length self.new.buffer.now }
+        ensures { (self.new.used + most_response ≤ length self.new.buffer.now) × (self.new.buffer.now ≡ self.old.buffer.now) }
     {
         if self.buffer.len() - self.used < case::MOST_RESPONSE {
             return self.flush(rt);
@@ -125,7 +129,7 @@ impl<'a> Output<'a> {
 
     // Writes the responses, and reports the fault that stopped the program, where there is one, with the number of its case.
     pub fn finish(&mut self, rt: &HostRuntime, outcome: Result<(), Fault>)
-        ensures { self.new.used ≡ 0 }
+        ensures { (self.new.used ≡ 0) × (self.new.buffer.now ≡ self.old.buffer.now) }
     {
         let written = self.flush(rt);
         if let Err(fault) = written.and(outcome) {
