@@ -2,16 +2,20 @@
 use mathlib.Core.Path.{◌≡◌, sym, ap, ◌∙◌}
 use mathlib.Core.Bool.{true, false}
 use mathlib.Core.List.{List, [], ◌∷◌, ◌++◌, append_assoc}
-use Prim.Native.Nat.{ℕ, suc, ◌+◌, ◌-◌, ◌/◌, ◌%◌, ◌^◌, ◌≤◌, ◌<◌}
+use Prim.Native.Nat.{ℕ, suc, ◌+◌, ◌-◌, ◌*◌, ◌/◌, ◌%◌, ◌^◌, ◌≤◌, ◌<◌}
 use native.Mathlib.Omega.{arith}
 use native.Mathlib.Numerals.{add-one}
-use lib.ListN.{length, get_or, take, drop, length-drop, drop_of_length-le}
+use lib.ListN.{length, get_or, take, drop, length-append, length-drop, drop_of_length-le}
+use lib.Dec.{leb}
+use borrow.Author.Tests.{le-leb, lt-leb}
 use lib.Seq.{sets, drop-cons, take-suc, take_all, get_or-drop, length-sets}
 use Rattle.rules.specs.Words.{with_nibble}
+use Rattle.rules.proofs.Tests.{cases_lt}
 use Rattle.assembly.specs.Chain.{function_of, is_prefix, after_prefix}
 use Rattle.assembly.specs.Listing.{line_of, hex_digit, separator, bytes_line, listing_from, listing}
 use Rattle.assembler.specs.Text.{behind}
 use Rattle.assembler.proofs.Stores.{behind-next, stored-next}
+use Rattle.assembler.proofs.Most.{bytes-length}
 
 abbrev pub seen : List ℕ → ℕ → ℕ → List ℕ
 seen code start i = take (i - start) (drop start code)
@@ -43,7 +47,58 @@ unfolding listing_from
 rest_end code start i oreg h =
     rw (drop_of_length-le code {i = i} h, take_all (i - start) (drop start code) (omega (arith, length-drop start code)))
 
--- ---- the pass: done is the text up to here, what is left goes behind it
+-- ---- how much is left
+
+rest_line-length : (code : List ℕ) (start i oreg byte f o size : ℕ) → i < length code → byte ≡ get_or code i 0 → is_prefix byte ≡ false
+    → f ≡ function_of byte → o ≡ with_nibble byte oreg → size ≡ length (line_of f o)
+    → length (rest code start i oreg) ≡ size + length (rest code (i + 1) (i + 1) 0)
+rest_line-length code start i oreg byte f o size l b p ef eo s =
+    rw (rest_line code start i oreg l (rw (← b) p), ← b, ← ef, ← eo, s) (length-append (line_of f o) (rest code (i + 1) (i + 1) 0))
+
+rest-end-length : (code : List ℕ) (start i oreg : ℕ) → length code ≤ i → length (rest code start i oreg) ≡ 3 * (length code - start)
+rest-end-length code start i oreg h =
+    rw (rest_end code start i oreg h) (omega (arith, bytes-length (drop start code), length-drop start code))
+
+-- ---- the pass that measures: left is what is left of the room
+
+pub record Measured (code : List ℕ) (room left oreg start i : ℕ) : Type 0 where
+  pub here : i ≤ length code
+  pub order : start ≤ i
+  pub total : length (listing code) + left ≡ room + length (rest code start i oreg)
+
+pub measured-start : (code : List ℕ) (room : ℕ) → Measured code room room 0 0 0
+measured-start code room = record { here = omega arith; order = omega arith; total = omega arith }
+
+module _ (code : List ℕ) (room left oreg start i byte : ℕ) (m : Measured code room left oreg start i) (l : i < length code) (b : byte ≡ get_or code i 0) where
+  pub measured-prefix : (o : ℕ) → is_prefix byte ≡ true → o ≡ after_prefix oreg byte → Measured code room left o start (i + 1)
+  measured-prefix o p e =
+      record {
+        here = omega arith;
+        order = omega (arith, m.order);
+        total = rw (e, b, ← rest-prefix code start i oreg l m.order (rw (← b) p)) m.total;
+      }
+
+  module _ (f o size : ℕ) (p : is_prefix byte ≡ false) (ef : f ≡ function_of byte) (eo : o ≡ with_nibble byte oreg) (s : size ≡ length (line_of f o)) where
+    pub measured_line : size ≤ left → Measured code room (left - size) 0 (i + 1) (i + 1)
+    measured_line h =
+        record {
+          here = omega arith;
+          order = omega arith;
+          total = omega (arith, m.total, rest_line-length code start i oreg byte f o size l b p ef eo s);
+        }
+
+    pub measured_short : left < size → false ≡ leb (length (listing code)) room
+    measured_short h = sym (lt-leb (length (listing code)) room (omega (arith, m.total, rest_line-length code start i oreg byte f o size l b p ef eo s)))
+
+pub measured-end : (code : List ℕ) (room left oreg start i : ℕ) → Measured code room left oreg start i → length code ≤ i
+    → leb (length code - start) (left / 3) ≡ leb (length (listing code)) room
+measured-end code room left oreg start i m h =
+    let n = rest-end-length code start i oreg h in
+    cases_lt (left / 3) (length code - start)
+    (λ s. lt-leb (length code - start) (left / 3) s ∙ sym (lt-leb (length (listing code)) room (omega (arith, m.total, n))))
+    (λ s. le-leb (length code - start) (left / 3) s ∙ sym (le-leb (length (listing code)) room (omega (arith, m.total, n))))
+
+-- ---- the pass that writes: done is the text up to here, what is left goes behind it
 
 pub record Listed (code text₀ text : List ℕ) (end oreg start i : ℕ) : Type 0 where
   pub done : List ℕ

@@ -1,9 +1,10 @@
 -- The lines of the listing, each from its parts.
 use mathlib.Core.Path.{◌≡◌, refl, sym, ◌∙◌}
 use mathlib.Core.List.{List, [], ◌∷◌}
-use Prim.Native.Nat.{ℕ, ◌-◌, ◌^◌, ◌≤◌, ◌<◌}
+use Prim.Native.Nat.{ℕ, suc, ◌+◌, ◌-◌, ◌^◌, ◌≤◌, ◌<◌}
 use native.Mathlib.Omega.{arith}
-use lib.ListN.{length}
+use lib.ListN.{length, set}
+use lib.Seq.{sets}
 use Rattle.std.specs.Prelude.{Some, None}
 use Rattle.rules.specs.Tests.{look}
 use Rattle.rules.specs.Words.{range}
@@ -50,3 +51,11 @@ line_named f o line e n = there (look operation_names o []) (function_line f o) 
 pub line_unnamed : (f o : ℕ) → f ≡ 15 → None ≡ name_line (look operation_names o []) → function_line f o ≡ line_of f o
 unfolding line_of
 line_unnamed f o e n = missing (look operation_names o []) (function_line f o) n ∙ sym (yes_eq e _ _)
+
+-- ---- the bytes of an unfinished chain
+
+pub hex-stored : (text : List ℕ) (at a b c : ℕ) → set (set (set text at a) (at + 1) b) (at + 2) c ≡ sets text at (a ∷ b ∷ c ∷ [])
+hex-stored text at a b c =
+    let e : at + 1 ≡ suc at = omega arith in
+    let f : at + 2 ≡ suc (suc at) = omega arith in
+    rw (e, f)

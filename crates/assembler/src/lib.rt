@@ -6,7 +6,7 @@ mod chains; // the prefix writer
 mod line; // a line that grows at its end
 mod lines; // the lines of the listing
 mod names; // the names of functions and operations
-mod passes; // the pass over code that lists it
+mod passes; // the passes over code that list it
 
 ghost use Rattle.std.specs.Prelude.{◌≡◌};
 ghost use Rattle.assembly.specs.Calls.{function_bad, AssembleContract, ListContract};
@@ -41,12 +41,12 @@ pub fn assemble(function: u32, operand: u32, out: &mut [u8]) -> Result<usize, Re
     Ok(size)
 }
 
-// Writes the listing of code. The first pass, over no text, only counts its characters.
+// Writes the listing of code.
 pub fn list(code: &[u8], out: &mut [u8]) -> Result<usize, Refusal>
     ensures { ListContract code.now out.old result out.new }
 {
-    if passes::write_listing(code, &mut []) > out.len() {
-        return Err(Refusal::NoRoom);
+    if passes::has_room(code, out.len()) {
+        return Ok(passes::write_listing(code, out));
     }
-    Ok(passes::write_listing(code, out))
+    Err(Refusal::NoRoom)
 }

@@ -35,6 +35,13 @@ impl Line {
         }
     }
 
+    // Counts the characters.
+    pub(crate) fn len(&self) -> usize
+        ensures { (result ≡ length self.now) × (result ≤ 24) }
+    {
+        self.len
+    }
+
     // Adds a character.
     pub(crate) fn push(&mut self, byte: u8)
         requires { length self.old < 24 }

@@ -1,5 +1,5 @@
 // The lines of the listing: numbers, a function with its operand, an operation's name, the bytes of an unfinished chain.
-ghost use Rattle.std.specs.Prelude.{◌≡◌, ◌<◌, ◌≤◌, ◌++◌, length};
+ghost use Rattle.std.specs.Prelude.{◌≡◌, ◌<◌, ◌≤◌, ◌++◌, [], ◌∷◌, length};
 ghost use Rattle.std.proofs.lemmas.List.Edits.{sets};
 ghost use Rattle.assembly.specs.Listing as rule;
 ghost use Rattle.assembler.specs.Text.{behind};
@@ -69,10 +69,28 @@ pub(crate) fn put_all(bytes: &[u8], text: &mut [u8], at: usize) -> usize
     ensures { (result ≡ behind at bytes.now) × (text.new ≡ sets text.old at bytes.now) }
 {
     if at < text.len() {
-        let fit = bytes.len().min(text.len() - at);
-        text[at..at + fit].copy_from_slice(&bytes[..fit]);
+        let room = text.len() - at;
+        if bytes.len() <= room {
+            text[at..at + bytes.len()].copy_from_slice(bytes);
+        } else {
+            text[at..at + room].copy_from_slice(&bytes[..room]);
+        }
     }
     at.saturating_add(bytes.len())
+}
+
+// Writes three bytes at a place of the text, as far as it has room; returns the place behind them. Where there is room they are stored one by one:
+// as an array they would be written to the stack, and be waited for.
+fn put_three(a: u8, b: u8, c: u8, text: &mut [u8], at: usize) -> usize
+    ensures { (result ≡ behind at (a ∷ b ∷ c ∷ [])) × (text.new ≡ sets text.old at (a ∷ b ∷ c ∷ [])) }
+{
+    if at < text.len() && 3 <= text.len() - at {
+        text[at] = a;
+        text[at + 1] = b;
+        text[at + 2] = c;
+        return at + 3;
+    }
+    put_all(&[a, b, c], text, at)
 }
 
 // Returns a hexadecimal digit, in upper case.
@@ -103,7 +121,7 @@ pub(crate) fn put_bytes(chain: &[u8], text: &mut [u8], at: usize) -> usize
     while let Some((byte, others)) = rest.split_first() {
         let high = hex_digit(*byte / 16);
         let low = hex_digit(*byte % 16);
-        end = put_all(&[high, low, separator(others)], text, end);
+        end = put_three(high, low, separator(others), text, end);
         rest = others;
     }
     end

@@ -1,5 +1,6 @@
-// The pass over code that lists it. It goes byte by byte, as the machine fetches: prefixes gather in Oreg, any other byte ends a chain.
-ghost use Rattle.std.specs.Prelude.{◌≡◌, ◌<◌};
+// The two passes over code: whether the listing fits, and its text. Both go byte by byte, as the machine fetches: prefixes gather in Oreg, any
+// other byte ends a chain.
+ghost use Rattle.std.specs.Prelude.{◌≡◌, ◌<◌, leb, length};
 ghost use Rattle.std.proofs.lemmas.List.Edits.{sets};
 ghost use Rattle.assembly.specs.Chain as rule;
 ghost use Rattle.assembly.specs.Listing.{listing};
@@ -33,6 +34,38 @@ fn function_of(byte: u8) -> usize
     ensures { (result ≡ rule.function_of byte) × (result < 16) }
 {
     usize::from(byte >> 4)
+}
+
+// No byte of code is listed with more characters: a chain of one byte has at most 9, an operation's name 10 and a newline, a longer chain 21.
+const MOST: usize = 12;
+
+// Tests whether the listing of the code has at most room characters. Code that is short beside the room needs no count; a count ends where the
+// room does.
+// Kept, point 2: write_listing goes the same way, but to the end of the code, and with a text to write (d).
+pub(crate) fn has_room(code: &[u8], room: usize) -> bool
+    ensures { result ≡ leb (length (listing code.now)) room }
+{
+    if code.len() <= room / MOST {
+        return true;
+    }
+    let mut left = room;
+    let mut oreg = 0;
+    let mut start = 0;
+    for (i, byte) in code.iter().enumerate() {
+        let word = u32::from(*byte);
+        if is_prefix(word) {
+            oreg = after_prefix(oreg, word);
+        } else {
+            let size = lines::line_of(function_of(*byte), words::with_nibble(word, oreg)).len();
+            if left < size {
+                return false;
+            }
+            left -= size;
+            oreg = 0;
+            start = i + 1;
+        }
+    }
+    code.len() - start <= left / 3
 }
 
 // Writes the listing of the code at the start of the text, as far as it has room; returns its length. Lengths end at the last number.

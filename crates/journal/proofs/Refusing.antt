@@ -3,7 +3,8 @@ use Rattle.std.specs.Prelude.{Option, Some, None}
 use mathlib.Core.Path.{◌≡◌, refl}
 use mathlib.Core.Bool.{Bool, true, false, ◌||◌}
 use mathlib.Core.List.{List}
-use Prim.Native.Nat.{ℕ, ◌≤◌, ◌<◌}
+use Prim.Native.Nat.{ℕ, suc, ◌≤◌, ◌<◌}
+use native.Mathlib.Omega.{arith}
 use lib.Dec.{ltb, leb}
 use lib.ListN.{length}
 use borrow.Author.Tests.{ltb-false, leb-false}
@@ -36,6 +37,26 @@ unfolding not_input
 input_good c e =
     let f = neither (ltb c 4) (leb 8 c) e in
     (ltb-false c 4 f.0, leb-false 8 c f.1)
+
+-- ---- the first check that applies
+
+module _ (bad_channel : Bool) (n l depth used : ℕ) where
+  pub bad-size : memory_size_bad n || journal_size_bad l ≡ true → Some Size ≡ first_bad bad_channel n l depth used
+  unfolding first_bad
+  bad-size h = rw h
+
+  module _ (h : memory_size_bad n || journal_size_bad l ≡ false) where
+    pub bad-channel : bad_channel ≡ true → Some BadChannel ≡ first_bad bad_channel n l depth used
+    unfolding first_bad
+    bad-channel k = rw (h, k)
+
+    pub bad_bounds : bad_channel ≡ false → bounds_bad l depth used ≡ true → Some JournalBad ≡ first_bad bad_channel n l depth used
+    unfolding first_bad
+    bad_bounds k f = rw (h, k, f)
+
+    pub bad-none : bad_channel ≡ false → bounds_bad l depth used ≡ false → None ≡ first_bad bad_channel n l depth used
+    unfolding first_bad
+    bad-none k f = rw (h, k, f)
 
 -- ---- the outcome of a call after the checks
 
@@ -90,3 +111,14 @@ module _ (bad_channel : Bool) (m : Machine) (mem j : List ℕ) where
 
     pub bounds_good : bounds_bad (length j) m.depth m.used ≡ false
     bounds_good = parts.2
+
+-- ---- 12, the last number, is no number below it
+
+pub above : (n k : ℕ) → k ≤ n → (n ≡ k → ⊥) → suc k ≤ n
+above n k h e = omega arith
+
+pub twelve : (n : ℕ) → n ≤ 12 → 12 ≤ n → 12 ≡ n
+twelve n h k = omega arith
+
+pub zero_at : (n : ℕ) → 0 ≤ n
+zero_at n = omega arith

@@ -34,26 +34,29 @@ fn straddle(k: usize, x: u32, y: u32) -> u32
     }
 }
 
-// Reads the four bytes from s on as a word.
-fn four_bytes(mem: &[u32], s: usize) -> u32
-    requires { s + 4 ≤ 4 * length mem.now }
-    ensures { result ≡ four_bytes mem.now s }
+// Reads the four bytes from byte k of word i on as a word.
+fn four_bytes(mem: &[u32], i: usize, k: usize) -> u32
+    requires { (k < 4) × (4 * i + k + 4 ≤ 4 * length mem.now) }
+    ensures { result ≡ four_bytes mem.now (4 * i + k) }
 {
-    let x = mem[s / 4];
-    if s % 4 == 0 {
+    let x = mem[i];
+    if k == 0 {
         return x;
     }
-    straddle(s % 4, x, mem[s / 4 + 1])
+    straddle(k, x, mem[i + 1])
 }
 
 // Moves 4 * n bytes to a word boundary, four at a time. A source below the destination must be at least a word below it.
+// Counts the source's words beside the for: worked out from the other place, they would be rounded down to a word again at each turn.
 #[tactic(auto, unfolding(rules::specs::Memory::moved))]
 fn move_words(mem: &mut [u32], src: usize, dst: usize, n: usize)
     requires { (dst % 4 ≡ 0) × (src + 4 * n ≤ 4 * length mem.old) × (dst + 4 * n ≤ 4 * length mem.old) × (src < dst → src + 4 ≤ dst) }
     ensures { mem.new ≡ moved mem.old src dst (4 * n) }
 {
-    for k in 0..n {
-        mem[dst / 4 + k] = four_bytes(mem, src + 4 * k);
+    let mut from = src / 4;
+    for to in dst / 4..dst / 4 + n {
+        mem[to] = four_bytes(mem, from, src % 4);
+        from += 1;
     }
 }
 
@@ -83,6 +86,8 @@ fn move_parts(mem: &mut [u32], src: usize, dst: usize, head: usize, rest: usize)
 }
 
 // Moves n bytes, a word at a time. A move up by 1 to 3 bytes, which repeats bytes inside a word, is made one by one.
+// Not inlined: within a larger function the loops run short of registers, and where their jumps lie, which the loop over bytes feels, hangs on all of it.
+#[inline(never)]
 pub fn move_fast(mem: &mut [u32], src: usize, dst: usize, n: usize)
     requires { (src + n ≤ 4 * length mem.old) × (dst + n ≤ 4 * length mem.old) }
     ensures { mem.new ≡ moved mem.old src dst n }

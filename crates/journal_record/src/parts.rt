@@ -24,14 +24,14 @@ fn put_single_pairs(journal: &mut [u32], mem: &[u32], ks: &[u32], at: usize)
 }
 
 // Writes the pairs of the words of a span.
+// Goes over the indices, and not from 0: an index that is a sum is worked out pair by pair, where several pairs are written at once.
 // Kept, point 2: its indices are counted, those of put_single_pairs stand in a list; one function over both would take a closure with a contract (d).
 fn put_range_pairs(journal: &mut [u32], mem: &[u32], span: Span, at: usize)
     requires { (span.lo + span.c ≤ length mem.now) × (at + 2 * span.c ≤ length journal.old) }
     ensures { journal.new ≡ sets journal.old at (journalRules.olds mem.now (range span.lo span.c)) }
 {
-    for k in 0..span.c {
-        let i = span.lo + k;
-        let w = at + 2 * k;
+    for i in span.lo..span.lo + span.c {
+        let w = at + 2 * (i - span.lo);
         journal[w] = i as u32;
         journal[w + 1] = mem[i];
     }

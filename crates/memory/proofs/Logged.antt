@@ -45,6 +45,24 @@ module _ (xs : List Single) (m : List ℕ) (i k : ℕ) (h : k < length xs) where
   pub through_past : (here.index ≡ i → ⊥) → get_or (stores m (singles (take (k + 1) xs))) i 0 ≡ get_or (stores m (singles (take k xs))) i 0
   through_past n = rw one_more (read_past (singles (take k xs)) m i here.index here.value n)
 
+-- ---- a read after a list of single stores, from its end
+
+singles-more : (xs : List Single) (x : Single) → singles (xs ++ (x ∷ [])) ≡ singles xs ++ (word x.index x.value ∷ [])
+singles-more [] x = refl
+singles-more (y ∷ xs) x = ap (λ (r : List Store). word y.index y.value ∷ r) (singles-more xs x)
+
+module _ (xs : List Single) (m : List ℕ) (i : ℕ) where
+  pub through_last : (x : Single) → i < length m → x.index ≡ i → get_or (stores m (singles (xs ++ (x ∷ [])))) i 0 ≡ x.value
+  through_last x l e = rw (singles-more xs x, e) (read_here (singles xs) m i x.value l)
+
+  pub through_rest : (x : Single) → (x.index ≡ i → ⊥) → get_or (stores m (singles (xs ++ (x ∷ [])))) i 0 ≡ get_or (stores m (singles xs)) i 0
+  through_rest x n = rw (singles-more xs x) (read_past (singles xs) m i x.index x.value n)
+
+pub through_none : (xs : List Single) (m : List ℕ) (i : ℕ) → length xs ≡ 0 → get_or (stores m (singles xs)) i 0 ≡ get_or m i 0
+unfolding stores
+through_none [] m i h = refl
+through_none (x ∷ xs) m i h = absurd (omega (arith, h))
+
 -- memory after the stores of a plan, in three parts
 pub through_log : (m : List ℕ) (xs : List Single) (n cut s d c : ℕ)
     → stores m (logged xs n cut s d c) ≡ stores (stores (stores m (take cut (singles xs))) (moves s d c)) (slice cut n (singles xs))

@@ -12,13 +12,12 @@ use words::byte_of;
 pub fn latest(singles: &[Single], i: u32, v: u32) -> u32
     ensures { (m : List ℕ) → i < length m → get_or m i 0 ≡ v → result ≡ get_or (stores m (singles_of singles.now)) i 0 }
 {
-    let mut word = v;
-    for single in singles {
+    for single in singles.iter().rev() {
         if single.index == i {
-            word = single.value;
+            return single.value;
         }
     }
-    word
+    v
 }
 
 // Reads word i after the single stores before the move.

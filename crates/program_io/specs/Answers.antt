@@ -2,6 +2,7 @@
 use Rattle.std.specs.Prelude.{ℕ, Option, None, Some, eqb}
 use Rattle.rules.specs.Tests.{pick}
 use Rattle.rules.specs.Work.{outside, kind_fetch, kind_load, kind_store}
+use Rattle.program_io.specs.declared.answers.Numbers.{Numbers}
 use Rattle.program_io.specs.declared.answers.Part.{Part}
 use Rattle.program_io.specs.declared.answers.Part.TheVariants.{Fetch, Load, Store}
 use Rattle.program_io.specs.declared.answers.Refusal.{Refusal}
@@ -32,3 +33,7 @@ numbers_of_refusal (Outside a) = (outside, number_of_part a.part, a.address)
 abbrev pub numbers_of : Option Refusal → ℕ × ℕ × ℕ
 numbers_of None = (0, 0, 0)
 numbers_of (Some r) = numbers_of_refusal r
+
+-- number, part and address as the struct that the line of t414_run is made of (01, Answers by number; 02, No. 1; DECISIONS 58)
+abbrev pub three : ℕ × ℕ × ℕ → Numbers
+three t = record { number = t.0; part = t.1; address = t.2 }

@@ -1,7 +1,7 @@
 // Numbers of the answers (01, Answers by number; 02, No. 1), and of the steps of a run (01, Numbers at the edges).
 ghost use Rattle.std.specs.Prelude.{◌≡◌};
 ghost use Rattle.rules.specs.Calls.{numbered};
-ghost use Rattle.program_io.specs.Answers.{in_numbers};
+ghost use Rattle.program_io.specs.Answers.{in_numbers, numbers_of, three};
 
 use rules::Answer;
 use rules::names::OUTSIDE;
@@ -59,6 +59,39 @@ pub fn refusal_of(a: Answer) -> Option<Refusal>
         Answer::JournalFull => Refusal::Numbered(12),
     };
     Some(refusal)
+}
+
+// A refusal as the line of t414_run tells it: its number, 0 where there is none, and its part of 10 and the address of the access, 0 where there is
+// none. Any three numbers are one.
+#[derive(Clone, Copy, PartialEq, Eq, Debug)]
+pub struct Numbers {
+    // Kept, point 1: lines::line tells any three numbers, as it did (a).
+    pub number: u32,
+    pub part: u32,
+    pub address: u32,
+}
+
+// Returns number, part and address of a refusal, all 0 where there is none.
+pub fn as_numbers(refusal: Option<Refusal>) -> Numbers
+    ensures { result ≡ three (numbers_of refusal) }
+{
+    match refusal {
+        None => Numbers {
+            number: 0,
+            part: 0,
+            address: 0,
+        },
+        Some(Refusal::Numbered(number)) => Numbers {
+            number,
+            part: 0,
+            address: 0,
+        },
+        Some(Refusal::Outside(access)) => Numbers {
+            number: OUTSIDE,
+            part: access.part as u32,
+            address: access.address,
+        },
+    }
 }
 
 // Joins number and part to the first word of a response: the number, plus 256 times the part; 0 where the call is accepted.

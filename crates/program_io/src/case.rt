@@ -81,17 +81,18 @@ pub enum Call {
     Repeat(Counts),
 }
 
-// The head of a case of size bytes, whose bytes code..end are the T414's code. It is within the limits.
+// The head of a case of size bytes. Its bytes from..code are the numbers of a repeat, code..end the T414's code. It is within the limits.
 #[derive(Clone, Copy)]
 pub struct Head {
     pub call: Call,
     pub words: usize,
     pub journal: usize,
+    pub from: usize,
     pub code: usize,
     pub end: usize,
     pub size: usize,
     ghost limits: { (words ≤ most_words) × (journal ≤ most_journal) },
-    ghost order: { (case_head + 4 * words + 4 * journal ≤ code) × (code ≤ end) × (end ≤ size) },
+    ghost order: { (from ≡ case_head + 4 * words + 4 * journal) × (from ≤ code) × (code ≤ end) × (end ≤ size) },
 }
 
 // Reads the numbers of a repeat from the bytes before its code.
@@ -154,6 +155,7 @@ pub fn look(input: &[u8]) -> Result<Option<Head>, Fault>
         call,
         words,
         journal,
+        from,
         code: from + numbers,
         end: from + code,
         size,

@@ -2,7 +2,7 @@
 // 10. And its line on standard error, of an access outside memory (02, No. 1).
 ghost use Rattle.std.specs.Prelude.{◌≡◌, slice_index};
 
-use crate::answers::{Access, Part, Refusal};
+use crate::answers::{Access, Numbers, Part, Refusal, as_numbers};
 use rules::Machine;
 use rules::names::*;
 use std::fmt;
@@ -36,20 +36,36 @@ impl fmt::Display for Access {
     }
 }
 
-// The number, and the letter where it is a part of 10.
-impl fmt::Display for Refusal {
-    fn fmt<W: fmt::Write>(&self, f: &mut fmt::Formatter<W>) -> fmt::Result {
-        match self {
-            Refusal::Numbered(number) => write!(f, "{number}"),
-            Refusal::Outside(access) => {
-                let letter = access.part.letter();
-                write!(f, "10{letter}")
-            }
-        }
+// Returns the part of 10 by its number.
+// Kept, point 1: the line tells any number as a part, as it did (a).
+fn part_of(part: u32) -> Part {
+    match part {
+        KIND_FETCH => Part::Fetch,
+        KIND_LOAD => Part::Load,
+        _ => Part::Store,
     }
 }
 
-// The line of a run: A, B, C, the accepted steps, the journal words used, and the refusal that ended the run, or 0.
+// The number, and the letter where it has a part.
+impl fmt::Display for Numbers {
+    fn fmt<W: fmt::Write>(&self, f: &mut fmt::Formatter<W>) -> fmt::Result {
+        let number = self.number;
+        if self.part == 0 {
+            return write!(f, "{number}");
+        }
+        let letter = part_of(self.part).letter();
+        write!(f, "{number}{letter}")
+    }
+}
+
+// The number, and the letter where it is a part of 10.
+impl fmt::Display for Refusal {
+    fn fmt<W: fmt::Write>(&self, f: &mut fmt::Formatter<W>) -> fmt::Result {
+        as_numbers(Some(*self)).fmt(f)
+    }
+}
+
+// The line of a run: A, B, C, the accepted steps, the journal words used, and the refusal that ended the run, or 0, in numbers.
 #[derive(Clone, Copy)]
 pub struct RunLine {
     pub a: u32,
@@ -57,7 +73,7 @@ pub struct RunLine {
     pub c: u32,
     pub steps: u64,
     pub used: usize,
-    pub refusal: Option<Refusal>,
+    pub refusal: Numbers,
 }
 
 impl fmt::Display for RunLine {
@@ -70,16 +86,12 @@ impl fmt::Display for RunLine {
             used,
             refusal,
         } = self;
-        write!(f, "{a:08X} {b:08X} {c:08X} {steps} {used} ")?;
-        match refusal {
-            Some(refusal) => write!(f, "{refusal}"),
-            None => write!(f, "0"),
-        }
+        write!(f, "{a:08X} {b:08X} {c:08X} {steps} {used} {refusal}")
     }
 }
 
-// Makes the line of a run that ends at the machine m.
-pub fn line(m: Machine, steps: u64, refusal: Option<Refusal>) -> RunLine
+// Makes the line of a run that ends at the machine m. It tells any three numbers.
+pub fn line(m: Machine, steps: u64, refusal: Numbers) -> RunLine
     ensures stack { (result.a ≡ slice_index m.regs AREG) × (result.b ≡ slice_index m.regs BREG) × (result.c ≡ slice_index m.regs CREG) }
     ensures fields { (result.steps ≡ steps) × (result.used ≡ m.used) × (result.refusal ≡ refusal) }
 {

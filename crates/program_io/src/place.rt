@@ -48,7 +48,8 @@ impl<'a> Input<'a> {
 
     // Moves the bytes left to the front of the buffer and reads more after them; returns false at the end of the input.
     pub fn refill(&mut self, rt: &HostRuntime) -> Result<bool, Fault>
-        ensures { self.new.at ≡ 0 }
+        ensures at { self.new.at ≡ 0 }
+        ensures length { length self.new.buffer.now ≡ length self.old.buffer.now }
     {
         let kept = self.end - self.at;
         self.buffer.copy_within(self.at..self.end, 0);

@@ -1,11 +1,9 @@
 // Scheduling in registers alone: the idle flag, the slice, Status, Creg.
 ghost use Rattle.std.specs.Prelude.{◌≡◌};
-ghost use Rattle.plan.specs.Level.{number};
 ghost use Rattle.plan.specs.View.{view};
 ghost use Rattle.plan.specs.declared.Log.{Log};
 ghost use Rattle.rules.specs.Scheduling as scheduling;
 
-use plan::level::Level;
 use plan::{lower, raise};
 use rules::REGISTERS;
 use rules::names::*;
@@ -27,14 +25,13 @@ pub fn clear_idle(regs: &mut [u32; REGISTERS])
     lower(regs, FLAGS_REG, IDLE_FLAG);
 }
 
-// Starts a slice for a process taken from the low queue (01, Links, clocks, slice).
+// Starts a slice for a process taken from the low queue (01, Links, clocks, slice). It holds for any number, and so takes one.
 #[tactic(auto, using(plan::proofs::Decided::tests), unfolding(rules::specs::Scheduling::start_slice, rules::specs::Work::put))]
-pub fn start_slice(regs: &mut [u32; REGISTERS], level: Level)
-    ensures { (log : Log) → view regs.new log ≡ scheduling.start_slice (number level) (view regs.old log) }
+pub fn start_slice(regs: &mut [u32; REGISTERS], level: usize)
+    ensures { (log : Log) → view regs.new log ≡ scheduling.start_slice level (view regs.old log) }
 {
-    match level {
-        Level::High => {}
-        Level::Low => regs[SLICE_REG] = 0,
+    if level != 0 {
+        regs[SLICE_REG] = 0;
     }
 }
 

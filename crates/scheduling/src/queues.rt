@@ -57,7 +57,7 @@ pub fn dequeue(plan: &mut Plan, mem: &[u32], level: Level)
 {
     let wdesc = plan.regs[level.front()] | level.number();
     plan.regs[WDESC_REG] = wdesc;
-    start_slice(&mut plan.regs, level);
+    start_slice(&mut plan.regs, level.number() as usize);
     unlink_front(plan, mem, level);
 }
 

@@ -1,5 +1,6 @@
 // One line of the text: a function's name and an operand, or an operation's name.
 ghost use Rattle.std.specs.Prelude.{◌≡◌, ◌<◌, ◌≤◌, length, IfOk};
+ghost use Rattle.std.specs.Iterator.{at_most};
 
 use crate::failure::LineError;
 use crate::names::{Instruction, Names, OPERATE};
@@ -10,6 +11,30 @@ fn is_blank(byte: &u8) -> bool {
     matches!(byte, b' ' | b'\t' | b'\r')
 }
 
+// Yields the words of a line. Blanks are skipped in one go: that is quicker than to split the line at each of them and then drop the empty words.
+#[derive(Clone, Copy, Debug)]
+struct Words<'a> {
+    rest: &'a [u8],
+}
+
+impl<'a> Iterator for Words<'a> {
+    type Item = &'a [u8];
+
+    ghost remaining = { λ s. at_most (length s.rest.now) };
+
+    fn next(&mut self) -> Option<&'a [u8]> {
+        let start = self.rest.iter().position(|byte| !is_blank(byte))?;
+        let from = &self.rest[start..];
+        let size = match from[1..].iter().position(is_blank) {
+            Some(more) => 1 + more,
+            None => from.len(),
+        };
+        let (word, rest) = from.split_at(size);
+        self.rest = rest;
+        Some(word)
+    }
+}
+
 // Returns the number that digits write in a base from 2 to 36, where there are some and the number is below 2^32.
 fn number(digits: &[u8], base: u32) -> Option<u32>
     requires { (2 ≤ base) × (base ≤ 36) }
@@ -18,9 +43,8 @@ fn number(digits: &[u8], base: u32) -> Option<u32>
         return None;
     }
     digits.iter().try_fold(0u32, |value, digit| {
-        value
-            .checked_mul(base)?
-            .checked_add(char::from(*digit).to_digit(base)?)
+        let digit = char::from(*digit).to_digit(base)?;
+        u32::try_from(u64::from(value) * u64::from(base) + u64::from(digit)).ok()
     })
 }
 
@@ -51,7 +75,7 @@ pub(crate) fn put_chain(function: u32, operand: u32, out: &mut [u8]) -> Result<u
 pub(crate) fn assemble_line(line: &[u8], names: &Names, out: &mut [u8]) -> Result<usize, LineError>
     ensures { IfOk result (λ size. size ≤ length out.old) }
 {
-    let mut words = line.split(is_blank).filter(|word| !word.is_empty());
+    let mut words = Words { rest: line };
     let Some(name) = words.next() else {
         return Ok(0);
     };

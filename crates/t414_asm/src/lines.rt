@@ -1,5 +1,5 @@
 // The lines of a text, without their comments.
-ghost use Rattle.std.specs.Prelude.{◌≤◌, length};
+ghost use Rattle.std.specs.Prelude.{◌≤◌, ◌-◌, length};
 ghost use Rattle.std.specs.Iterator.{at_most};
 
 // Yields what stands on each line before its comment, `--` and what follows it. Both ends are looked for at once: that is quicker than to split
@@ -19,9 +19,29 @@ impl<'a> Lines<'a> {
 fn content_size(text: &[u8]) -> usize
     ensures { result ≤ length text.now }
 {
-    (0..text.len())
-        .find(|at| matches!(text.get(*at..), Some([b'\n', ..] | [b'-', b'-', ..])))
-        .unwrap_or(text.len())
+    for at in 0..text.len() {
+        match text[at] {
+            b'\n' => return at,
+            b'-' if matches!(text.get(at + 1), Some(b'-')) => return at,
+            _ => {}
+        }
+    }
+    text.len()
+}
+
+// Returns what stands behind the line whose comment a text begins with, `--` and what follows it; nothing, where the text is at its end. Not
+// inlined: beside the loop over a line's content LLVM carries the start of this one through that loop, two more steps for each byte.
+#[inline(never)]
+fn behind_comment(text: &[u8]) -> &[u8]
+    ensures { length result.now ≤ length text.now - 1 }
+{
+    let Some(comment) = text.get(2..) else {
+        return &[];
+    };
+    match comment.iter().position(|byte| *byte == b'\n') {
+        Some(end) => &comment[end + 1..],
+        None => &[],
+    }
 }
 
 impl<'a> Iterator for Lines<'a> {
@@ -34,9 +54,9 @@ impl<'a> Iterator for Lines<'a> {
             return None;
         }
         let (line, rest) = self.rest.split_at(content_size(self.rest));
-        self.rest = match rest.iter().position(|byte| *byte == b'\n') {
-            Some(end) => &rest[end + 1..],
-            None => &[],
+        self.rest = match rest {
+            [b'\n', next @ ..] => next,
+            comment => behind_comment(comment),
         };
         Some(line)
     }

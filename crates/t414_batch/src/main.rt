@@ -138,7 +138,8 @@ fn answer(h: Head, input: &mut Input, output: &mut Output, mem: &mut [u32], jour
     requires size { h.size + input.old.at ≤ input.old.end }
     requires room { output.old.used + most_response ≤ length output.old.buffer.now }
     requires lengths { (most_words ≤ length mem.old) × (most_journal ≤ length journal.old) }
-    ensures { length output.new.buffer.now ≡ length output.old.buffer.now }
+    ensures length { length output.new.buffer.now ≡ length output.old.buffer.now }
+    ensures rest { (input.new.at ≡ input.old.at + h.size) × (input.new.end ≡ input.old.end) × (input.new.buffer.now ≡ input.old.buffer.now) }
 {
     let mem = &mut mem[..h.words];
     let journal = &mut journal[..h.journal];

@@ -1,8 +1,7 @@
 // The text that is gathered before it is written.
-ghost use Rattle.std.specs.Prelude.{◌≤◌, length, IfOk};
+ghost use Rattle.std.specs.Prelude.{◌≡◌, ◌≤◌, length, IfOk};
 
 use assembly::Refusal;
-use std::fmt;
 
 // The length of text that is written before more is put behind it.
 const MUCH: usize = 131072;
@@ -24,27 +23,42 @@ pub(crate) struct Gathered<'a> {
 }
 
 impl<'a> Gathered<'a> {
-    pub(crate) fn new(buffer: &'a mut [u8]) -> Gathered<'a> {
+    // Makes the text that has nothing yet.
+    pub(crate) fn new(buffer: &'a mut [u8]) -> Gathered<'a>
+        ensures { (result.used ≡ 0) × (result.buffer.now ≡ buffer.old) }
+    {
         Gathered { buffer, used: 0 }
     }
 
     // Writes the text, and says so where that fails.
-    pub(crate) fn flush(&mut self, rt: &HostRuntime) {
-        if rt.write_all(&self.buffer[..self.used]).is_err() {
+    pub(crate) fn flush(&mut self, rt: &HostRuntime)
+        ensures { (self.new.used ≡ 0) × (self.new.buffer.now ≡ self.old.buffer.now) }
+    {
+        let written = rt.write_all(self.unwritten());
+        self.used = 0;
+        if written.is_err() {
             let _ = rt.eprintln("list: the listing cannot be written");
         }
-        self.used = 0;
+    }
+
+    // Returns the text.
+    fn unwritten(&self) -> &[u8] {
+        &self.buffer[..self.used]
     }
 
     // Writes the text where there is much of it.
-    pub(crate) fn make_room(&mut self, rt: &HostRuntime) {
+    pub(crate) fn make_room(&mut self, rt: &HostRuntime)
+        ensures { (self.new.used ≤ self.old.used) × (self.new.buffer.now ≡ self.old.buffer.now) }
+    {
         if self.used >= MUCH {
             self.flush(rt);
         }
     }
 
     // Puts the listing of code behind the text.
-    pub(crate) fn list(&mut self, rt: &HostRuntime, code: &[u8]) {
+    pub(crate) fn list(&mut self, rt: &HostRuntime, code: &[u8])
+        ensures { length self.new.buffer.now ≡ length self.old.buffer.now }
+    {
         match list(code, &mut self.buffer[self.used..]) {
             Ok(size) => self.used += size,
             Err(_) => {
@@ -54,23 +68,21 @@ impl<'a> Gathered<'a> {
     }
 
     // Makes the newline at the end of the text a space, where more of the line follows.
-    pub(crate) fn join(&mut self) {
+    pub(crate) fn join(&mut self)
+        ensures { (self.new.used ≡ self.old.used) × (length self.new.buffer.now ≡ length self.old.buffer.now) }
+    {
         if self.used > 0 {
             self.buffer[self.used - 1] = b' ';
         }
     }
-}
 
-// Text is put behind the text where it fits.
-impl fmt::Write for Gathered<'_> {
-    fn write_str(&mut self, s: &str) -> fmt::Result {
-        let bytes = s.as_bytes();
-        let rest = &mut self.buffer[self.used..];
-        if bytes.len() > rest.len() {
-            return Err(fmt::Error);
+    // Puts bytes behind the text, where they fit.
+    pub(crate) fn put<const N: usize>(&mut self, bytes: [u8; N])
+        ensures { length self.new.buffer.now ≡ length self.old.buffer.now }
+    {
+        if let Some(place) = self.buffer[self.used..].first_chunk_mut::<N>() {
+            *place = bytes;
+            self.used += N;
         }
-        rest[..bytes.len()].copy_from_slice(bytes);
-        self.used += bytes.len();
-        Ok(())
     }
 }

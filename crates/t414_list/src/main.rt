@@ -5,13 +5,14 @@
 mod gathered; // the text that is gathered
 
 ghost use Rattle.std.specs.Prelude.{◌≡◌, ◌+◌, ◌<◌, ◌≤◌, length};
+ghost use Rattle.assembly.specs.Listing as rule;
 
 use gathered::Gathered;
 use program_io::input::read_full;
 use program_io::room::zeros;
 use rules::names::MEM_START;
 use std::env::{Env, FillError};
-use std::fmt::Write;
+use std::io::Write;
 
 // The most bytes of code, and one more, which tells that there is too much.
 const MOST: usize = 1048576;
@@ -58,7 +59,9 @@ fn unfinished(code: &[u8]) -> usize
 }
 
 // Puts the listing of an unfinished chain, piece by piece: the newline behind a piece that is not the last becomes a space.
-fn put_unfinished(rt: &HostRuntime, chain: &[u8], text: &mut Gathered) {
+fn put_unfinished(rt: &HostRuntime, chain: &[u8], text: &mut Gathered)
+    ensures { length text.new.buffer.now ≡ length text.old.buffer.now }
+{
     for (k, piece) in chain.chunks(PIECE).enumerate() {
         if k > 0 {
             text.join();
@@ -70,7 +73,9 @@ fn put_unfinished(rt: &HostRuntime, chain: &[u8], text: &mut Gathered) {
 
 // Puts the listing of code, a line a chain.
 // Kept, point 3: each turn takes a piece off the code that is left, up to the end of a chain; no iterator of std cuts so (d).
-fn put_plain(rt: &HostRuntime, code: &[u8], text: &mut Gathered) {
+fn put_plain(rt: &HostRuntime, code: &[u8], text: &mut Gathered)
+    ensures { length text.new.buffer.now ≡ length text.old.buffer.now }
+{
     let (mut rest, tail) = code.split_at(unfinished(code));
     while !rest.is_empty() {
         let (piece, others) = rest.split_at(piece_length(rest));
@@ -81,23 +86,41 @@ fn put_plain(rt: &HostRuntime, code: &[u8], text: &mut Gathered) {
     put_unfinished(rt, tail, text);
 }
 
+// Returns a hexadecimal digit, in upper case.
+// Kept, point 4: a digit by hand: `{:02X}` for each byte took about eight times as long, which tells on long chains (b).
+#[tactic(auto, using(rules::proofs::Tests::yes_lt, rules::proofs::Tests::no_lt), unfolding(assembly::specs::Listing::hex_digit))]
+fn hex_digit(d: u8) -> u8
+    requires { d < 16 }
+    ensures { result ≡ rule.hex_digit d }
+{
+    d + if d < 10 { b'0' } else { b'A' - 10 }
+}
+
 // Puts the address and the bytes of a chain, and as many spaces as four bytes would have more, and one.
-fn put_head(rt: &HostRuntime, address: u32, chain: &[u8], text: &mut Gathered) {
+// The address is printed apart: no clause says what `write!` leaves of a text where it fails, so that its buffer keeps its length would stay open.
+fn put_head(rt: &HostRuntime, address: u32, chain: &[u8], text: &mut Gathered)
+    ensures { length text.new.buffer.now ≡ length text.old.buffer.now }
+{
     text.make_room(rt);
-    let _ = write!(text, "{address:08X}  ");
+    let mut head = [b' '; 10];
+    let mut place = &mut head[..];
+    let _ = write!(place, "{address:08X}");
+    text.put(head);
     for byte in chain {
-        let _ = write!(text, "{byte:02X} ");
+        text.put([hex_digit(*byte / 16), hex_digit(*byte % 16), b' ']);
         text.make_room(rt);
     }
     for _ in chain.len()..4 {
-        let _ = text.write_str("   ");
+        text.put([b' '; 3]);
     }
-    let _ = text.write_str(" ");
+    text.put([b' ']);
 }
 
 // Puts the listing of code with addresses and bytes.
 // Kept, point 3: each turn takes one chain off the code that is left; no iterator of std cuts where a test of a byte says (d).
-fn put_addresses(rt: &HostRuntime, code: &[u8], text: &mut Gathered) {
+fn put_addresses(rt: &HostRuntime, code: &[u8], text: &mut Gathered)
+    ensures { length text.new.buffer.now ≡ length text.old.buffer.now }
+{
     let (mut rest, tail) = code.split_at(unfinished(code));
     let mut address = MEM_START;
     while !rest.is_empty() {

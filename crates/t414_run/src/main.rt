@@ -7,7 +7,7 @@ ghost use Rattle.std.specs.Prelude.{◌≡◌};
 ghost use Rattle.t414_run.specs.Program as program;
 ghost use Rattle.t414_run.specs.Program.{result_of};
 
-use program_io::answers::{MOST_STEPS, Refusal, refusal_of};
+use program_io::answers::{MOST_STEPS, Refusal, as_numbers, refusal_of};
 use program_io::input::read_full;
 use program_io::lines::line;
 use rules::Machine;
@@ -64,7 +64,7 @@ fn run_code(mem: &mut [u32], journal: &mut [u32], code: &[u8]) -> Tally
 
 // Prints the line, and on standard error the access that was outside memory, where there is one.
 fn print_tally(rt: &HostRuntime, t: Tally) {
-    let _ = rt.println(line(t.machine, t.steps, t.refusal));
+    let _ = rt.println(line(t.machine, t.steps, as_numbers(t.refusal)));
     if let Some(Refusal::Outside(access)) = t.refusal {
         let _ = rt.eprintln(access);
     }

@@ -4,7 +4,7 @@ use Rattle.rules.specs.Journal.{olds}
 use Rattle.journal_record.specs.Indices.{range}
 use Rattle.journal_record.proofs.parts.put_range_pairs.Given as goal
 
-abbrev pub invariant-loop-k : goal.invariant-loop-k
-invariant-loop-k l =
-    sets l.journal (l.at + 2 * l.k) (olds l.mem (range (l.span.lo + l.k) (l.span.c - l.k)))
+abbrev pub invariant-loop-i : goal.invariant-loop-i
+invariant-loop-i l =
+    sets l.journal (l.at + 2 * (l.i - l.span.lo)) (olds l.mem (range l.i (l.span.lo + l.span.c - l.i)))
     ≡ sets l.initial.journal l.at (olds l.mem (range l.span.lo l.span.c))
