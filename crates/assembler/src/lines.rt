@@ -64,7 +64,7 @@ pub(crate) fn line_of(function: usize, operand: u32) -> Line
 }
 
 // Writes bytes at a place of the text, as far as it has room; returns the place behind them.
-// Kept, point 6: a text and a place in it: where `list` counts its characters first, the place is behind the text's end, and no slice begins there.
+// Kept, point 6: a text and a place in it: it holds for any place, one behind the text's end too, as write_listing does, and no slice begins there (d).
 pub(crate) fn put_all(bytes: &[u8], text: &mut [u8], at: usize) -> usize
     ensures { (result ≡ behind at bytes.now) × (text.new ≡ sets text.old at bytes.now) }
 {
@@ -81,6 +81,7 @@ pub(crate) fn put_all(bytes: &[u8], text: &mut [u8], at: usize) -> usize
 
 // Writes three bytes at a place of the text, as far as it has room; returns the place behind them. Where there is room they are stored one by one:
 // as an array they would be written to the stack, and be waited for.
+// Kept, point 6: as put_all.
 fn put_three(a: u8, b: u8, c: u8, text: &mut [u8], at: usize) -> usize
     ensures { (result ≡ behind at (a ∷ b ∷ c ∷ [])) × (text.new ≡ sets text.old at (a ∷ b ∷ c ∷ [])) }
 {

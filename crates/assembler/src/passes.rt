@@ -36,7 +36,8 @@ fn function_of(byte: u8) -> usize
     usize::from(byte >> 4)
 }
 
-// No byte of code is listed with more characters: a chain of one byte has at most 9, an operation's name 10 and a newline, a longer chain 21.
+// No byte of code is listed with more characters: the line of a chain of one byte has at most 9, that of a longer one 18, an operation's name 11 and
+// a newline.
 const MOST: usize = 12;
 
 // Tests whether the listing of the code has at most room characters. Code that is short beside the room needs no count; a count ends where the

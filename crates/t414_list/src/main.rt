@@ -87,7 +87,8 @@ fn put_plain(rt: &HostRuntime, code: &[u8], text: &mut Gathered)
 }
 
 // Returns a hexadecimal digit, in upper case.
-// Kept, point 4: a digit by hand: `{:02X}` for each byte took about eight times as long, which tells on long chains (b).
+// Kept, point 2: as the assembler's, which is its own; a public one would be a new promise there (d).
+// Kept, point 4: a digit by hand: with `{:02X}` for each byte a run on a chain of 1 MiB took four times as long (b).
 #[tactic(auto, using(rules::proofs::Tests::yes_lt, rules::proofs::Tests::no_lt), unfolding(assembly::specs::Listing::hex_digit))]
 fn hex_digit(d: u8) -> u8
     requires { d < 16 }
