@@ -36,8 +36,8 @@ fn function_of(byte: u8) -> usize
     usize::from(byte >> 4)
 }
 
-// No byte of code is listed with more characters: the line of a chain of one byte has at most 9, that of a longer one 18, an operation's name 11 and
-// a newline.
+// The most characters that the listing has for a byte of code: a name and a newline. The line of a function has at most 9 where its chain has one
+// byte, and 18 where it has more.
 const MOST: usize = 12;
 
 // Tests whether the listing of the code has at most room characters. Code that is short beside the room needs no count; a count ends where the

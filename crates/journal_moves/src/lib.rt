@@ -86,7 +86,7 @@ fn move_parts(mem: &mut [u32], src: usize, dst: usize, head: usize, rest: usize)
 }
 
 // Moves n bytes, a word at a time. A move up by 1 to 3 bytes, which repeats bytes inside a word, is made one by one.
-// Not inlined: within a larger function the loops run short of registers, and where their jumps lie, which the loop over bytes feels, hangs on all of it.
+// Is not inlined: within a larger function its loops run short of registers.
 #[inline(never)]
 pub fn move_fast(mem: &mut [u32], src: usize, dst: usize, n: usize)
     requires { (src + n ≤ 4 * length mem.old) × (dst + n ≤ 4 * length mem.old) }

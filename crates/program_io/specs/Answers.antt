@@ -35,5 +35,5 @@ numbers_of None = (0, 0, 0)
 numbers_of (Some r) = numbers_of_refusal r
 
 -- number, part and address as the struct that the line of t414_run is made of (01, Answers by number; 02, No. 1; DECISIONS 58)
-abbrev pub three : ℕ × ℕ × ℕ → Numbers
-three t = record { number = t.0; part = t.1; address = t.2 }
+abbrev pub as_struct : ℕ × ℕ × ℕ → Numbers
+as_struct t = record { number = t.0; part = t.1; address = t.2 }

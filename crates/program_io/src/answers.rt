@@ -1,7 +1,7 @@
 // Numbers of the answers (01, Answers by number; 02, No. 1), and of the steps of a run (01, Numbers at the edges).
 ghost use Rattle.std.specs.Prelude.{◌≡◌};
 ghost use Rattle.rules.specs.Calls.{numbered};
-ghost use Rattle.program_io.specs.Answers.{in_numbers, numbers_of, three};
+ghost use Rattle.program_io.specs.Answers.{as_struct, in_numbers, numbers_of};
 
 use rules::Answer;
 use rules::names::OUTSIDE;
@@ -73,7 +73,7 @@ pub struct Numbers {
 
 // Returns number, part and address of a refusal, all 0 where there is none.
 pub fn as_numbers(refusal: Option<Refusal>) -> Numbers
-    ensures { result ≡ three (numbers_of refusal) }
+    ensures { result ≡ as_struct (numbers_of refusal) }
 {
     match refusal {
         None => Numbers {
